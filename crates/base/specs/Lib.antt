@@ -1,0 +1,7 @@
+pub mod Choice
+pub mod Bytes
+pub mod Map
+pub mod Entity
+pub mod Table
+pub mod Turns
+pub mod Refusal
