@@ -1,0 +1,24 @@
+-- `utf8::two` meets its contract.
+use borrow.Author.Needs.{needs}
+use Rattle.base.specs.Choice.{via}
+use Rattle.utf8.proofs.Rows.{and-next, and-end, and-stop}
+use Rattle.utf8.proofs.two.Statement.{statement}
+use Rattle.utf8.specs.Utf8.{fits}
+use Rattle.utf8.proofs.two.Tie as tie
+
+in-span-requires : tie.Need-in-span-requires
+in-span-requires c κs = search needs
+
+in-span-requires-2 : tie.Need-in-span-requires-2
+in-span-requires-2 c κs = search needs
+
+returns : tie.Need-returns
+unfolding fits
+returns c = and-next _ _ (via (c .before .before .in-span .ensures) (c .before .if1 .taken)) (and-end _ (c .in-span2 .ensures))
+
+returns-2 : tie.Need-returns-2
+unfolding fits
+returns-2 c = and-stop _ _ (via (c .before .in-span .ensures) (c .if1 .left))
+
+pub two-spec : {M : Type 1} → statement M
+two-spec = tie.close (tie.spec in-span-requires in-span-requires-2 returns returns-2)

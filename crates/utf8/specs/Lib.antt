@@ -1,0 +1,3 @@
+pub mod Elim
+pub mod Utf8
+pub mod Space
