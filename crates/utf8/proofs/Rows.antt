@@ -136,9 +136,17 @@ row-width r (List·Memᴰ·tail (List·Memᴰ·tail (List·Memᴰ·tail (List·M
     rw e (omega arith, omega arith)
 row-width r (List·Memᴰ·tail (List·Memᴰ·tail (List·Memᴰ·tail (List·Memᴰ·tail (List·Memᴰ·tail (List·Memᴰ·tail (List·Memᴰ·head e))))))) =
     rw e (omega arith, omega arith)
-row-width r (List·Memᴰ·tail (List·Memᴰ·tail (List·Memᴰ·tail (List·Memᴰ·tail (List·Memᴰ·tail (List·Memᴰ·tail (List·Memᴰ·tail (List·Memᴰ·head e)))))))) =
+row-width r
+    (List·Memᴰ·tail
+    (List·Memᴰ·tail
+    (List·Memᴰ·tail (List·Memᴰ·tail (List·Memᴰ·tail (List·Memᴰ·tail (List·Memᴰ·tail (List·Memᴰ·head e)))))))) =
     rw e (omega arith, omega arith)
-row-width r (List·Memᴰ·tail (List·Memᴰ·tail (List·Memᴰ·tail (List·Memᴰ·tail (List·Memᴰ·tail (List·Memᴰ·tail (List·Memᴰ·tail (List·Memᴰ·tail (List·Memᴰ·head e))))))))) =
+row-width r
+    (List·Memᴰ·tail
+    (List·Memᴰ·tail
+    (List·Memᴰ·tail
+    (List·Memᴰ·tail (List·Memᴰ·tail (List·Memᴰ·tail (List·Memᴰ·tail (List·Memᴰ·tail (List·Memᴰ·head e)))))))))
+    =
     rw e (omega arith, omega arith)
 
 -- a character has one to four bytes, and they lie within the text

@@ -20,18 +20,34 @@ pub Char-End : {B : Type 0} (x : Char) (k0 : B) (k1 : B) (k2 : ℕ → ℕ → B
 unfolding on-Char
 Char-End x k0 k1 k2 e h = h ∙ sym (ap (λ x. on-Char x k0 k1 k2) e)
 
-pub Char-Code : {B : Type 0} (x : Char) (k0 : B) (k1 : B) (k2 : ℕ → ℕ → B) {x0 : ℕ} {x1 : ℕ} {y : B} → x ≡ Code x0 x1 → y ≡ k2 x0 x1 → y ≡ on-Char x k0 k1 k2
+pub Char-Code :
+    {B : Type 0} (x : Char) (k0 : B) (k1 : B) (k2 : ℕ → ℕ → B) {x0 : ℕ} {x1 : ℕ} {y : B}
+    → x ≡ Code x0 x1
+    → y ≡ k2 x0 x1
+    → y ≡ on-Char x k0 k1 k2
 unfolding on-Char
 Char-Code x k0 k1 k2 e h = h ∙ sym (ap (λ x. on-Char x k0 k1 k2) e)
 
-pub Char-Bad-with : {T B : Type 0} (x : Char × T) (k0 : T → B) (k1 : T → B) (k2 : ℕ → ℕ → T → B) {u : T} {y : B} → x ≡ (Bad, u) → y ≡ k0 u → y ≡ with-Char x k0 k1 k2
+pub Char-Bad-with :
+    {T B : Type 0} (x : Char × T) (k0 : T → B) (k1 : T → B) (k2 : ℕ → ℕ → T → B) {u : T} {y : B}
+    → x ≡ (Bad, u)
+    → y ≡ k0 u
+    → y ≡ with-Char x k0 k1 k2
 unfolding on-Char with-Char
 Char-Bad-with x k0 k1 k2 e h = h ∙ sym (ap (λ x. with-Char x k0 k1 k2) e)
 
-pub Char-End-with : {T B : Type 0} (x : Char × T) (k0 : T → B) (k1 : T → B) (k2 : ℕ → ℕ → T → B) {u : T} {y : B} → x ≡ (End, u) → y ≡ k1 u → y ≡ with-Char x k0 k1 k2
+pub Char-End-with :
+    {T B : Type 0} (x : Char × T) (k0 : T → B) (k1 : T → B) (k2 : ℕ → ℕ → T → B) {u : T} {y : B}
+    → x ≡ (End, u)
+    → y ≡ k1 u
+    → y ≡ with-Char x k0 k1 k2
 unfolding on-Char with-Char
 Char-End-with x k0 k1 k2 e h = h ∙ sym (ap (λ x. with-Char x k0 k1 k2) e)
 
-pub Char-Code-with : {T B : Type 0} (x : Char × T) (k0 : T → B) (k1 : T → B) (k2 : ℕ → ℕ → T → B) {x0 : ℕ} {x1 : ℕ} {u : T} {y : B} → x ≡ (Code x0 x1, u) → y ≡ k2 x0 x1 u → y ≡ with-Char x k0 k1 k2
+pub Char-Code-with :
+    {T B : Type 0} (x : Char × T) (k0 : T → B) (k1 : T → B) (k2 : ℕ → ℕ → T → B) {x0 : ℕ} {x1 : ℕ} {u : T} {y : B}
+    → x ≡ (Code x0 x1, u)
+    → y ≡ k2 x0 x1 u
+    → y ≡ with-Char x k0 k1 k2
 unfolding on-Char with-Char
 Char-Code-with x k0 k1 k2 e h = h ∙ sym (ap (λ x. with-Char x k0 k1 k2) e)

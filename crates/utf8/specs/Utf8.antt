@@ -1,6 +1,7 @@
 -- UTF-8 as Unicode defines it: table 3-7, "Well-Formed UTF-8 Byte Sequences", and table 3-6, "UTF-8 Bit Distribution".
 use Prim.Native.Nat.{ℕ, zero, suc, _+_, _*_, _/_, _%_}
 use mathlib.Core.Bool.{Bool, true, false, _&&_, _||_}
+use mathlib.Core.Path.{_≡_}
 use mathlib.Core.List.{List, [], _∷_, _++_}
 use lib.ListN.{length, getD, drop}
 use lib.Dec.{ltb, leb}
@@ -96,3 +97,12 @@ scalarEncoding k = record { bytes = padded 0 4 (encodeOf k); width = length (enc
 
 unfoldable pub encodingOf : ℕ → Encoding
 encodingOf k = pick (isScalar k) (scalarEncoding k) (record { bytes = 0 ∷ 0 ∷ 0 ∷ 0 ∷ []; width = 0 })
+
+-- the bytes of characters, one after another
+unfoldable pub spelled : List ℕ → Bytes
+spelled [] = []
+spelled (k ∷ ks) = encodeOf k ++ spelled ks
+
+pub data AllScalar : List ℕ → Type 0 where
+  none : AllScalar []
+  next : {k : ℕ} {ks : List ℕ} → isScalar k ≡ true → AllScalar ks → AllScalar (k ∷ ks)
