@@ -1,0 +1,3 @@
+pub mod Elim
+pub mod Number
+pub mod Pair
