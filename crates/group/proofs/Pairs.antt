@@ -333,3 +333,21 @@ nth-at (suc n) s at (suc k) p h e =
     by-pair (pairAt s at)
     (λ q. nowhere-at (rw q at e))
     (λ a b q. rw q (nth-at n s (b .to) k p (omega arith) (rw q at e)))
+
+-- the place behind pairs lies within the text
+pub skip-within : (n : ℕ) (s : Bytes) (at p : ℕ) → skipOf n s at ≡ At p → at ≤ length s → (at ≤ p) × (p ≤ length s)
+unfolding skipOf on-Pair
+skip-within zero s at p e h = let y : at ≡ p = cc in (omega arith, omega arith)
+skip-within (suc n) s at p e h =
+    by-pair (pairAt s at)
+    (λ q. nowhere-at (rw q at e))
+    (λ a b q.
+    let o = pair-is s at a b q in
+    let k = o .key in
+    let v = o .value in
+    let f = k .forward in
+    let g = k .order in
+    let i = v .forward in
+    let j = v .order in
+    let r = skip-within n s (b .to) p (rw q at e) (v .in-text) in
+    (omega arith, r .1))

@@ -1,4 +1,4 @@
--- Eliminators of the enums of utf8, with their laws. Written by tools/elims.py.
+-- Eliminators of the enums of utf8, with their laws.
 use mathlib.Core.Path.{_≡_, sym, ap, _∙_}
 use Prim.Native.Nat.{ℕ}
 use Rattle.utf8.specs.declared.Char.{Char}

@@ -1,0 +1,3 @@
+pub mod Names
+pub mod Check
+pub mod Find
