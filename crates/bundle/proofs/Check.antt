@@ -20,7 +20,7 @@ use Rattle.group.specs.declared.Number.the-variants.{Unread, Read}
 use Rattle.group.specs.declared.Place.{Place}
 use Rattle.group.specs.declared.Place.the-variants.{Nowhere, At}
 use Rattle.group.proofs.Numbers.{by-number, number-read-at, number-written-at, number-most}
-use Rattle.group.proofs.Pairs.{AllShort, none, next, pairs-read, pairs-written, pairs-all, skip-within}
+use Rattle.group.proofs.Pairs.{AllShort, all-short, by-place, pairs-read, pairs-written, pairs-all, skip-within}
 use Rattle.bundle.specs.Bundle.{countOf, firstAt, rangesOf, textsOf, goodNames, isBundle, checkOf, bundleBytes, IsTexts}
 use Rattle.bundle.specs.declared.Checked.{Checked}
 use Rattle.bundle.specs.declared.Checked.the-variants.{BadBundle, Texts}
@@ -98,23 +98,6 @@ unfolding rangesOf
 ranges-are s n f p q = ap₂ (λ (i j : ℕ). pairsAt i s j) p q
 
 -- Reading what was written.
-
--- lengths within a bundle are group numbers
-short-sized : (x : Bytes) → length x ≤ length (sizedBytes x)
-unfolding sizedBytes
-short-sized x = let l = length-append (groupOf (length x)) x in omega arith
-
-all-short : (m : Map Bytes) → length (mapBytes m) ≤ 4294967295 → AllShort m
-unfolding mapBytes pairBytes
-all-short [] h = none
-all-short (e ∷ m) h =
-    let l = length-append (pairBytes e) (mapBytes m) in
-    let p = length-append (sizedBytes (e .key)) (sizedBytes (e .value)) in
-    let k = short-sized (e .key) in
-    let v = short-sized (e .value) in
-    let h₁ : length (e .key) ≤ 4294967295 = omega arith in
-    let h₂ : length (e .value) ≤ 4294967295 = omega arith in
-    next h₁ h₂ (all-short m (omega arith))
 
 -- what was read of a bundle that was written
 module _ (m : Map Bytes) (t : IsTexts m) where
@@ -223,10 +206,6 @@ module _ (s : Bytes) (all : AllBytes s) (b : isBundle s ≡ true) where
     where
       positive : (n : ℕ) → (n ≡ 0 → ⊥) → 1 ≤ n
       positive n d = omega arith
-
-      by-place : {A : Type 0} (x : Place) → (x ≡ Nowhere → A) → ((p : ℕ) → x ≡ At p → A) → A
-      by-place Nowhere f g = f refl
-      by-place (At p) f g = g p refl
 
   count-texts : length (textsOf s) ≡ countOf s
   unfolding textsOf entriesAt

@@ -30,6 +30,10 @@ pub by-pair : {A : Type 0} (x : Pair) → (x ≡ Broken → A) → ((a b : Range
 by-pair Broken f g = f refl
 by-pair (Two a b) f g = g a b refl
 
+pub by-place : {A : Type 0} (x : Place) → (x ≡ Nowhere → A) → ((p : ℕ) → x ≡ At p → A) → A
+by-place Nowhere f g = f refl
+by-place (At p) f g = g p refl
+
 -- a count that falls by one, where the definition goes by suc
 skip-step :
     (n : ℕ) (s : Bytes) (at : ℕ)
@@ -351,3 +355,20 @@ skip-within (suc n) s at p e h =
     let j = v .order in
     let r = skip-within n s (b .to) p (rw q at e) (v .in-text) in
     (omega arith, r .1))
+
+-- parts of a text that is not too long have lengths that are group numbers
+short-sized : (x : Bytes) → length x ≤ length (sizedBytes x)
+unfolding sizedBytes
+short-sized x = let l = length-append (groupOf (length x)) x in omega arith
+
+pub all-short : (m : Map Bytes) → length (mapBytes m) ≤ 4294967295 → AllShort m
+unfolding mapBytes pairBytes
+all-short [] h = none
+all-short (e ∷ m) h =
+    let l = length-append (pairBytes e) (mapBytes m) in
+    let p = length-append (sizedBytes (e .key)) (sizedBytes (e .value)) in
+    let k = short-sized (e .key) in
+    let v = short-sized (e .value) in
+    let h₁ : length (e .key) ≤ 4294967295 = omega arith in
+    let h₂ : length (e .value) ≤ 4294967295 = omega arith in
+    next h₁ h₂ (all-short m (omega arith))
