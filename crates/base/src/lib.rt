@@ -44,11 +44,11 @@ pub fn set_word(t: &mut [u32], i: usize, v: u32)
 }
 
 // Stores a number, and nothing past the end.
-pub fn set_float(t: &mut [f64], i: usize, v: f64)
-    ensures { λ _. ⌜ now (t .exit) ≡ set (now (t .entry)) i v ⌝ }
+pub fn set_float(t: &mut [f64], i: usize, x: f64)
+    ensures { λ _. ⌜ now (t .exit) ≡ set (now (t .entry)) i x ⌝ }
 {
     if i < t.len() {
-        t[i] = v;
+        t[i] = x;
     }
 }
 
@@ -56,10 +56,10 @@ pub fn set_float(t: &mut [f64], i: usize, v: f64)
 pub fn zero_words(t: &mut [u32])
     ensures { λ _. ⌜ now (t .exit) ≡ replicate (length (now (t .entry))) 0 ⌝ }
 {
-    let mut i = 0;
-    while i < t.len() {
-        t[i] = 0;
-        i += 1;
+    let mut n = 0;
+    while n < t.len() {
+        t[n] = 0;
+        n += 1;
     }
 }
 
@@ -67,10 +67,10 @@ pub fn zero_words(t: &mut [u32])
 pub fn zero_floats(t: &mut [f64])
     ensures { λ _. ⌜ now (t .exit) ≡ replicate (length (now (t .entry))) zeroFloat ⌝ }
 {
-    let mut i = 0;
-    while i < t.len() {
-        t[i] = 0.0;
-        i += 1;
+    let mut k = 0;
+    while k < t.len() {
+        t[k] = 0.0;
+        k += 1;
     }
 }
 

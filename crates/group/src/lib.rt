@@ -119,19 +119,19 @@ pub fn skip_pairs(s: &[u8], at: usize, count: usize) -> Place
     ensures { λ r. ⌜ r ≡ skipOf count (now (s .entry)) at ⌝ }
 {
     let mut left = count;
-    let mut place = at;
+    let mut end = at;
     while 0 < left {
-        match pair_at(s, place) {
+        match pair_at(s, end) {
             Pair::Broken => {
                 return Place::Nowhere;
             }
             Pair::Two(_, b) => {
-                place = b.to;
+                end = b.to;
                 left -= 1;
             }
         }
     }
-    Place::At(place)
+    Place::At(end)
 }
 
 // Pair number k, from 0, of so many pairs.

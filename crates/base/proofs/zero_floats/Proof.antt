@@ -9,10 +9,10 @@ use Rattle.base.specs.Table.{zeroFloat}
 use Rattle.base.proofs.zero_floats.Tie as tie
 
 abbrev Inv-loop : tie.InvT-loop
-Inv-loop t₀ i₀ t i = Cleared zeroFloat t₀ t i
+Inv-loop t₀ k₀ t k = Cleared zeroFloat t₀ t k
 
 abbrev μ-loop : tie.MeasureT-loop
-μ-loop t₀ i₀ t i = length t - i
+μ-loop t₀ k₀ t k = length t - k
 
 loop-holds : tie.Need-loop-holds Inv-loop μ-loop
 loop-holds c = cleared-start _ _
@@ -23,8 +23,8 @@ mul-t c = search needs
 slice-write-t : tie.Need-slice-write-t Inv-loop μ-loop
 slice-write-t c = search needs
 
-add-i : tie.Need-add-i Inv-loop μ-loop
-add-i c = search needs
+add-k : tie.Need-add-k Inv-loop μ-loop
+add-k c = search needs
 
 loop-less : tie.Need-loop-less Inv-loop μ-loop
 loop-less c = simp length-set (omega arith)
@@ -47,7 +47,7 @@ zero-floats-spec =
     loop-holds
     mul-t
     slice-write-t
-    add-i
+    add-k
     loop-less
     loop-again
     same-length

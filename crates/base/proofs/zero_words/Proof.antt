@@ -8,10 +8,10 @@ use Rattle.base.proofs.zero_words.Statement.{statement}
 use Rattle.base.proofs.zero_words.Tie as tie
 
 abbrev Inv-loop : tie.InvT-loop
-Inv-loop t₀ i₀ t i = Cleared 0 t₀ t i
+Inv-loop t₀ n₀ t n = Cleared 0 t₀ t n
 
 abbrev μ-loop : tie.MeasureT-loop
-μ-loop t₀ i₀ t i = length t - i
+μ-loop t₀ n₀ t n = length t - n
 
 loop-holds : tie.Need-loop-holds Inv-loop μ-loop
 loop-holds c = cleared-start _ _
@@ -22,8 +22,8 @@ mul-t c = search needs
 slice-write-t : tie.Need-slice-write-t Inv-loop μ-loop
 slice-write-t c = search needs
 
-add-i : tie.Need-add-i Inv-loop μ-loop
-add-i c = search needs
+add-n : tie.Need-add-n Inv-loop μ-loop
+add-n c = search needs
 
 loop-less : tie.Need-loop-less Inv-loop μ-loop
 loop-less c = simp length-set (omega arith)
@@ -46,7 +46,7 @@ zero-words-spec =
     loop-holds
     mul-t
     slice-write-t
-    add-i
+    add-n
     loop-less
     loop-again
     same-length

@@ -9,10 +9,10 @@ use Rattle.group.specs.Pair.{skipOf}
 use Rattle.group.proofs.skip_pairs.Tie as tie
 
 abbrev Inv-loop : tie.InvT-loop
-Inv-loop s at count left₀ place₀ left place = skipOf left s place ≡ skipOf count s at
+Inv-loop s at count left₀ end₀ left end = skipOf left s end ≡ skipOf count s at
 
 abbrev μ-loop : tie.MeasureT-loop
-μ-loop s at count left₀ place₀ left place = left
+μ-loop s at count left₀ end₀ left end = left
 
 loop-holds : tie.Need-loop-holds Inv-loop μ-loop
 loop-holds c = search needs
@@ -24,7 +24,7 @@ enum-told : tie.Need-enum-told Inv-loop μ-loop
 enum-told c = search needs
 
 returns : tie.Need-returns Inv-loop μ-loop
-returns c = skip-broken (c .before .before .before .before .loop .left) (c .before .before .before .before .before .before .args .s .now) (c .before .before .before .before .loop .place) (c .before .before .before .loop-test .taken) (via (c .before .before .pair-at .ensures) (c .enum-told .given .1)) ∙ c .before .before .before .before .loop .inv
+returns c = skip-broken (c .before .before .before .before .loop .left) (c .before .before .before .before .before .before .args .s .now) (c .before .before .before .before .loop .end) (c .before .before .before .loop-test .taken) (via (c .before .before .pair-at .ensures) (c .enum-told .given .1)) ∙ c .before .before .before .before .loop .inv
 
 enum-known-b : tie.Need-enum-known-b Inv-loop μ-loop
 enum-known-b c = search needs
@@ -36,10 +36,10 @@ loop-less : tie.Need-loop-less Inv-loop μ-loop
 loop-less c = search needs
 
 loop-again : tie.Need-loop-again Inv-loop μ-loop
-loop-again c = skip-two (c .before .before .before .before .before .loop .left) (c .before .before .before .before .before .before .before .args .s .now) (c .before .before .before .before .before .loop .place) _ _ (c .before .before .before .before .loop-test .taken) (via (c .before .before .before .pair-at .ensures) (c .before .b .given .1)) ∙ c .before .before .before .before .before .loop .inv
+loop-again c = skip-two (c .before .before .before .before .before .loop .left) (c .before .before .before .before .before .before .before .args .s .now) (c .before .before .before .before .before .loop .end) _ _ (c .before .before .before .before .loop-test .taken) (via (c .before .before .before .pair-at .ensures) (c .before .b .given .1)) ∙ c .before .before .before .before .before .loop .inv
 
 returns-2 : tie.Need-returns-2 Inv-loop μ-loop
-returns-2 c = skip-end (c .before .loop .left) (c .before .before .before .args .s .now) (c .before .loop .place) (c .loop-test .left) ∙ c .before .loop .inv
+returns-2 c = skip-end (c .before .loop .left) (c .before .before .before .args .s .now) (c .before .loop .end) (c .loop-test .left) ∙ c .before .loop .inv
 
 pub skip-pairs-spec : {M : Type 1} → statement M
 skip-pairs-spec =
