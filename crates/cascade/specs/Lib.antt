@@ -1,0 +1,5 @@
+pub mod Map
+pub mod MapLaws
+pub mod Clause
+pub mod Cascade
+pub mod CascadeLaws
