@@ -4,5 +4,9 @@ pub mod Clause
 pub mod Number
 pub mod NumberLaws
 pub mod NumberExamples
+pub mod Match
+pub mod MatchLaws
 pub mod Cascade
 pub mod CascadeLaws
+pub mod Walk
+pub mod WalkLaws
