@@ -10,3 +10,5 @@ pub mod Cascade
 pub mod CascadeLaws
 pub mod Walk
 pub mod WalkLaws
+pub mod Meaning
+pub mod MeaningProof

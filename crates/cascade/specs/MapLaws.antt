@@ -150,3 +150,44 @@ module _ {A : Type 0} where
       → lastOf k o (before ++ (entry k x ∷ after)) ≡ some x
   last-at k o before x after h =
       rw (foldl-append (newer k) o before (entry k x ∷ after), newer, same-refl k) (last-absent k (some x) after h)
+
+pub distinct-firsts : (ks xs : List Bytes) → Distinct ks → Distinct (firsts ks xs)
+unfolding add
+distinct-firsts ks [] d = d
+distinct-firsts ks (x ∷ xs) d =
+    by-test (member x ks)
+    (λ e. rw (add, e) (distinct-firsts ks xs d))
+    (λ e. rw (add, e) (distinct-firsts (ks ++ (x ∷ [])) xs (distinct-snoc ks x d e)))
+
+pub lookup-absent : {A : Type 0} (k : Bytes) (m : Map A) → member k (map keyOf m) ≡ false → lookup k m ≡ none
+unfolding lookup member
+lookup-absent k [] h = refl
+lookup-absent k (e ∷ m) h =
+    rw
+    (or-left (same k (e .key)) (member k (map keyOf m)) h)
+    (lookup-absent k m (or-right (same k (e .key)) (member k (map keyOf m)) h))
+
+-- a map is its names in order and the value of each
+pub map-ext :
+    {A : Type 0} (m w : Map A)
+    → Distinct (map keyOf m)
+    → map keyOf m ≡ map keyOf w
+    → ((k : Bytes) → lookup k m ≡ lookup k w)
+    → m ≡ w
+unfolding lookup member
+map-ext [] [] d e h = refl
+map-ext [] (b ∷ w) d e h = cc
+map-ext (a ∷ m) [] d e h = cc
+map-ext (a ∷ m) (b ∷ w) d e h =
+    let p : a .key ≡ b .key = cc in
+    let q : map keyOf m ≡ map keyOf w = cc in
+    let x : some (a .value) ≡ some (b .value) = rw (same-refl (a .key), ← p, same-refl (a .key)) at (h (a .key)) in
+    let y : a .value ≡ b .value = cc in
+    ap₂ _∷_ (ap₂ entry p y)
+    (map-ext m w (d .1) q
+    (λ k.
+    by-test (same k (a .key))
+    (λ s.
+    rw (same-true k (a .key) s)
+    (lookup-absent (a .key) m (d .0) ∙ sym (lookup-absent (a .key) w (rw q at (d .0)))))
+    (λ s. rw (s, ← p, s) at (h k))))
