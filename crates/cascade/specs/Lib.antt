@@ -12,3 +12,7 @@ pub mod Walk
 pub mod WalkLaws
 pub mod Meaning
 pub mod MeaningProof
+pub mod Rust
+pub mod RustProof
+pub mod Fine
+pub mod FineProof

@@ -39,6 +39,11 @@ module _ {A : Type 0} where
   react fail matched next = next
   react out matched next = refused 8
 
+  -- what a refusal stops
+  abbrev pub continue : Answer A → (Layers A → Answer A) → Answer A
+  continue (refused n) f = refused n
+  continue (layers m) f = f m
+
 module _ {A : Type 0} (z : ℕ) (e : Entity) where
   unfoldable pub walk : Layers A → List (Clause A) → Answer A
   walk m [] = layers m

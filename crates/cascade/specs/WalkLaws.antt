@@ -15,13 +15,9 @@ use Rattle.cascade.specs.Match.{Verdict, pass, fail, out, applies, verdi
 use Rattle.cascade.specs.MatchLaws.{by-verdict, verdict-unfit}
 use Rattle.cascade.specs.Cascade.{Layers, step, declared}
 use Rattle.cascade.specs.CascadeLaws.{cascade-is}
-use Rattle.cascade.specs.Walk.{Answer, refused, layers, toHit, crowded, admit, react, walk, propertyMaps, matched, hits}
+use Rattle.cascade.specs.Walk.{Answer, refused, layers, toHit, crowded, admit, react, continue, walk, propertyMaps, matched, hits}
 
 module _ {A : Type 0} where
-  abbrev pub continue : Answer A → (Layers A → Answer A) → Answer A
-  continue (refused n) f = refused n
-  continue (layers m) f = f m
-
   continue-admit : (m : Layers A) (a : Answer A) (f : Layers A → Answer A) → continue (admit m a) f ≡ admit m (continue a f)
   continue-admit m a f = by-test (ltb 32 (length m)) (λ p. rw p) (λ p. by-test (crowded m) (λ q. rw (p, q)) (λ q. rw (p, q)))
 
