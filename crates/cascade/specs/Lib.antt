@@ -16,3 +16,5 @@ pub mod Rust
 pub mod RustProof
 pub mod Fine
 pub mod FineProof
+pub mod Refusals
+pub mod RefusalsProof
