@@ -18,3 +18,6 @@ pub mod Fine
 pub mod FineProof
 pub mod Refusals
 pub mod RefusalsProof
+pub mod Style
+pub mod StyleLaws
+pub mod Canvas

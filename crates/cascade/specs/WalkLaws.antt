@@ -1,11 +1,12 @@
 -- Where the walk refuses nothing its layers are those that the matched selectors declare.
-use Prim.Native.Nat.{ℕ}
+use Prim.Native.Nat.{ℕ, _≤_}
 use native.Mathlib.Omega.{arith}
 use mathlib.Core.Path.{_≡_, refl, sym, _∙_, ap}
 use mathlib.Core.Bool.{Bool, true, false, cond}
 use mathlib.Core.List.{List, [], _∷_, _++_, map, foldl}
 use lib.Dec.{ltb}
 use lib.ListN.{length}
+use borrow.Author.Tests.{ltb-false}
 use Rattle.base.specs.Choice.{by-test}
 use Rattle.base.specs.Entity.{Entity}
 use Rattle.sheet.specs.Sheet.{Rule}
@@ -69,3 +70,28 @@ module _ {A : Type 0} (z : ℕ) (e : Entity) where
       rw (v, walk-append (step m (toHit c)) cs ds, continue-admit (step m (toHit c)) (walk z e (step m (toHit c)) cs)))
       (λ v. rw (v, walk-append m cs ds))
       (λ v. rw v)
+
+  -- what is not refused keeps the bounds: 32 layers, 128 names in each
+  walk-bounds :
+      (m : Layers A) (cs : List (Clause A)) (w : Layers A)
+      → ltb 32 (length m) ≡ false
+      → crowded m ≡ false
+      → walk z e m cs ≡ layers w
+      → (ltb 32 (length w) ≡ false) × (crowded w ≡ false)
+  unfolding walk
+  walk-bounds m [] w l c p = let q : m ≡ w = cc in rw (← q) (l, c)
+  walk-bounds m (x ∷ cs) w l c p =
+      by-verdict (verdict z e (x .selector))
+      (λ v.
+      by-test (ltb 32 (length (step m (toHit x))))
+      (λ f. absurd (refused-layers 23 w (rw (v, f) at p)))
+      (λ f.
+      by-test (crowded (step m (toHit x)))
+      (λ g. absurd (refused-layers 24 w (rw (v, f, g) at p)))
+      (λ g. walk-bounds (step m (toHit x)) cs w f g (rw (v, f, g) at p))))
+      (λ v. walk-bounds m cs w l c (rw v at p))
+      (λ v. absurd (refused-layers 8 w (rw v at p)))
+
+  pub maps-bounds : (rs : List (Rule A)) (w : Layers A) → propertyMaps z e rs ≡ layers w → (length w ≤ 32) × (crowded w ≡ false)
+  unfolding propertyMaps crowded
+  maps-bounds rs w p = let r = walk-bounds [] (clauses rs) w refl refl p in (ltb-false 32 (length w) (r .0), r .1)
