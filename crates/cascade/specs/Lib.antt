@@ -21,3 +21,5 @@ pub mod RefusalsProof
 pub mod Style
 pub mod StyleLaws
 pub mod Canvas
+pub mod Isolation
+pub mod IsolationProof
