@@ -23,3 +23,7 @@ pub mod StyleLaws
 pub mod Canvas
 pub mod Isolation
 pub mod IsolationProof
+pub mod Order
+pub mod OrderLaws
+pub mod Sort
+pub mod SortLaws

@@ -1,6 +1,6 @@
 -- Ordered maps as lists of entries, in order of first insertion: layers, property maps and tags are all such maps.
 use mathlib.Core.Path.{_≡_}
-use mathlib.Core.Bool.{Bool, false, cond}
+use mathlib.Core.Bool.{Bool, true, false, cond}
 use mathlib.Core.List.{List, [], _∷_, _++_, foldl, map}
 use mathlib.Core.Option.{Option, none, some}
 use Rattle.base.specs.Bytes.{Bytes, same}
@@ -36,6 +36,11 @@ module _ {A : Type 0} where
   unfoldable pub keep : (A → Bool) → List A → List A
   keep p [] = []
   keep p (x ∷ xs) = cond (p x) (x ∷ keep p xs) (keep p xs)
+
+-- every member passes
+unfoldable pub All : {A : Type 0} → (A → Bool) → List A → Type 0
+All p [] = Unit {0}
+All p (x ∷ xs) = (p x ≡ true) × All p xs
 
 -- no name twice
 abbrev pub Distinct : List Bytes → Type 0
