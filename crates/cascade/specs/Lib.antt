@@ -27,3 +27,6 @@ pub mod Order
 pub mod OrderLaws
 pub mod Sort
 pub mod SortLaws
+pub mod Draw
+pub mod RustDraw
+pub mod DrawProof

@@ -1,0 +1,189 @@
+-- The drawing list is a permutation of the entries, sorted and stable; the Rust's merge of two sorted lists gives it; no NaN comes to be sorted.
+use Prim.Native.Nat.{ℕ, suc, _≤_, _<_, _+_, _*_, compare, Ordering, Ordering·lt, Ordering·eq, Ordering·gt}
+use native.Mathlib.Omega.{arith}
+use native.Mathlib.Nat.{add-comm}
+use mathlib.Core.Path.{_≡_, refl, sym, _∙_, ap, ap₂}
+use mathlib.Core.Bool.{Bool, true, false, _&&_, _||_, not, cond, Bool·beq, and-true, and-comm}
+use mathlib.Core.List.{List, [], _∷_, _++_, map}
+use mathlib.Core.Option.{Option, none, some}
+use lib.Dec.{eqb, leb, ltb, isLe}
+use lib.IntN.{ℤ, pos, negsuc}
+use lib.Ieee.{Float, nan, inf, fin, below, level, lt, eq, up, down, isNan, ofInt, neg}
+use borrow.Author.Tests.{eqb-true, eqb-false, eq-eqb, ne-eqb, ltb-true, ltb-false, lt-ltb, le-ltb, leb-true, leb-false, le-leb, lt-leb}
+use Rattle.base.specs.Choice.{by-test, clash, or-left, or-right}
+use Rattle.base.specs.Map.{Entry, Map}
+use Rattle.base.specs.Entity.{Entity}
+use Rattle.base.specs.Refusal.{ofEntity}
+use Rattle.base.specs.declared.refusal.Refusal.{Refusal}
+use Rattle.sheet.specs.Sheet.{Rule, Value}
+use Rattle.cascade.specs.Map.{keep, All}
+use Rattle.cascade.specs.Number.{whole}
+use Rattle.cascade.specs.Walk.{Answer, refused, layers, propertyMaps}
+use Rattle.cascade.specs.Style.{Style, Settings, styles}
+use Rattle.cascade.specs.Order.{TotalPreorder, andThenBy, intLe, boolLe, floatLe}
+use Rattle.cascade.specs.OrderLaws.{by-key, and-then, nat-order, int-order, bool-order, float-order}
+use Rattle.cascade.specs.Sort.{sort, merge, Sorted, tied, Permutation}
+use Rattle.cascade.specs.SortLaws.{sort-permutes, sort-sorted, sort-stable, merge-sort, all-sort, sort-alike, merge-alike}
+use Rattle.cascade.specs.Draw.{Drawn, Drawing, declined, entries, layerRank, fillRank, zRank, idRank, notAfter, someNan, entityDrawing, join, stream, styleEntities, styleAreas, Ordered}
+use Rattle.cascade.specs.RustDraw.{sameInt, compareInt, compareBool, compareFloat, fill, compareStyled, notGreater, rustAreas}
+
+-- ---- the order
+
+pub drawing-order : (forLabels : Bool) → TotalPreorder (notAfter forLabels)
+drawing-order forLabels =
+    and-then _ _ (by-key layerRank intLe int-order)
+    (and-then _ _ (by-key (fillRank forLabels) boolLe bool-order)
+    (and-then _ _ (by-key zRank floatLe float-order) (by-key idRank leb nat-order)))
+
+sort-ordered : (forLabels : Bool) (given ds : List Drawn) → ds ≡ sort (notAfter forLabels) given → Ordered forLabels given ds
+sort-ordered forLabels given ds e =
+    rw e
+    (record
+    {
+      permutes = sort-permutes (notAfter forLabels) given;
+      sorted = sort-sorted (notAfter forLabels) (drawing-order forLabels) given;
+      stable = λ d. sort-stable (notAfter forLabels) (drawing-order forLabels) d given;
+    })
+
+-- -0 and 0 rank equal
+pub zeros-tie : tied floatLe (whole 0) (neg (whole 0)) ≡ true
+unfolding floatLe lt isNan ofInt neg
+zeros-tie = refl
+
+-- ---- no NaN
+
+abbrev pub noNan : Drawn → Bool
+noNan d = not (isNan (zRank d))
+
+all-append : {A : Type 0} (p : A → Bool) (xs ys : List A) → All p xs → All p ys → All p (xs ++ ys)
+unfolding All
+all-append p [] ys a b = b
+all-append p (x ∷ xs) ys a b = (a .0, all-append p xs ys (a .1) b)
+
+declined-entries : {A : Type 0} (r : Refusal) (ds : List Drawn) → declined r ≡ entries ds → A
+declined-entries r ds p = let z : _≡_ {A = ℕ} 0 1 = cc in absurd (omega arith)
+
+joined :
+    (f : List Drawn → List Drawn → List Drawn) (a b : Drawing) (ds : List Drawn)
+    → join f a b ≡ entries ds
+    → (xs : List Drawn) × (ys : List Drawn) × (a ≡ entries xs) × (b ≡ entries ys) × (ds ≡ f xs ys)
+unfolding join
+joined f (declined r) b ds p = declined-entries r ds p
+joined f (entries xs) (declined r) ds p = declined-entries r ds p
+joined f (entries xs) (entries ys) ds p = (xs, ys, refl, refl, cc)
+
+module _ (mp : Bool) (s : Settings) where
+  shown : (i : ℕ) (e : Entity) (ls : Map Style) → someNan ls ≡ false → All noNan (map (λ l. record { multipolygon = mp; place = i; entity = e; layer = l .key; style = l .value }) ls)
+  unfolding All someNan
+  shown i e [] h = tt
+  shown i e (l ∷ ls) h = ((rw (or-left (isNan (l .value .zIndex)) (someNan ls) h)), shown i e ls (or-right (isNan (l .value .zIndex)) (someNan ls) h))
+
+  entity-shown : (i : ℕ) (e : Entity) (a : Answer Value) (ds : List Drawn) → entityDrawing mp s i e a ≡ entries ds → All noNan ds
+  unfolding entityDrawing
+  entity-shown i e (refused n) ds p = declined-entries (ofEntity n mp i) ds p
+  entity-shown i e (layers v) ds p =
+      by-test (someNan (styles s e v))
+      (λ h. declined-entries (ofEntity 9 mp i) ds (rw h at p))
+      (λ h.
+      let q = rw h at p in
+      let r : map (λ (l : Entry Style). record { multipolygon = mp; place = i; entity = e; layer = l .key; style = l .value }) (styles s e v) ≡ ds = cc in
+      rw (← r) (shown i e (styles s e v) h))
+
+  -- a NaN never comes to be sorted
+  pub stream-shown : (z : ℕ) (rs : List (Rule Value)) (i : ℕ) (es : List Entity) (ds : List Drawn) → stream mp s z rs i es ≡ entries ds → All noNan ds
+  unfolding stream All
+  stream-shown z rs i [] ds p = let q : [] ≡ ds = cc in rw (← q) tt
+  stream-shown z rs i (e ∷ es) ds p =
+      let j = joined _++_ (entityDrawing mp s i e (propertyMaps z e rs)) (stream mp s z rs (suc i) es) ds p in
+      rw (j .4)
+      (all-append noNan (j .0) (j .1) (entity-shown i e (propertyMaps z e rs) (j .0) (j .2))
+      (stream-shown z rs (suc i) es (j .1) (j .3)))
+
+-- ---- the promise of a drawing list
+
+pub entities-ordered :
+    (s : Settings) (z : ℕ) (rs : List (Rule Value)) (es : List Entity) (ds : List Drawn)
+    → styleEntities s z rs es ≡ entries ds
+    → (xs : List Drawn) × (stream false s z rs 0 es ≡ entries xs) × Ordered (s .forLabels) xs ds
+entities-ordered s z rs es ds p =
+    let j = joined (λ xs ys. sort (notAfter (s .forLabels)) xs) (stream false s z rs 0 es) (entries []) ds p in
+    (j .0, j .2, sort-ordered (s .forLabels) (j .0) ds (j .4))
+
+-- the multipolygons' entries before the ways'
+pub areas-ordered :
+    (s : Settings) (z : ℕ) (rs : List (Rule Value)) (ways multipolygons : List Entity) (ds : List Drawn)
+    → styleAreas s z rs ways multipolygons ≡ entries ds
+    → (ws : List Drawn) × (ms : List Drawn) × (stream false s z rs 0 ways ≡ entries ws) × (stream true s z rs 0 multipolygons ≡ entries ms) × Ordered (s .forLabels) (ms ++ ws) ds
+areas-ordered s z rs ways multipolygons ds p =
+    let j = joined (λ ws ms. sort (notAfter (s .forLabels)) (ms ++ ws)) (stream false s z rs 0 ways) (stream true s z rs 0 multipolygons) ds p in
+    (j .0, j .1, j .2, j .3, sort-ordered (s .forLabels) (j .1 ++ j .0) ds (j .4))
+
+-- ---- the Rust's comparison
+
+-- one key: equal keys leave it to the rest, others decide
+by-one :
+    (same le ge : Bool) (o rest : Ordering) (rest′ : Bool)
+    → (same ≡ true → (le ≡ true) × (ge ≡ true))
+    → (same ≡ false → (isLe o ≡ le) × (ge ≡ not le))
+    → isLe rest ≡ rest′
+    → isLe (cond (not same) o rest) ≡ (le && (not ge || rest′))
+by-one true le ge o rest rest′ h k r = rw (h refl .0, h refl .1, r)
+by-one false le ge o rest rest′ h k r = rw (k refl .0, k refl .1) (both le)
+  where
+    both : (b : Bool) → b ≡ (b && (not (not b) || rest′))
+    both true = refl
+    both false = refl
+
+nat-same : (a b : ℕ) → eqb a b ≡ true → (leb a b ≡ true) × (leb b a ≡ true)
+nat-same a b e = let q = eqb-true a b e in (le-leb a b (omega arith), le-leb b a (omega arith))
+
+nat-differ : (a b : ℕ) → eqb a b ≡ false → leb b a ≡ not (leb a b)
+nat-differ a b e =
+    let q = eqb-false a b e in
+    by-test (leb a b)
+    (λ p. let l = leb-true a b p in rw (p, lt-leb b a (omega arith)))
+    (λ p. let l = leb-false a b p in rw (p, le-leb b a (omega arith)))
+
+int-same : (a b : ℤ) → sameInt a b ≡ true → (intLe a b ≡ true) × (intLe b a ≡ true)
+unfolding sameInt intLe
+int-same (pos a) (pos b) e = nat-same a b e
+int-same (pos a) (negsuc b) e = clash e refl
+int-same (negsuc a) (pos b) e = clash e refl
+int-same (negsuc a) (negsuc b) e = let r = nat-same a b e in (r .1, r .0)
+
+int-differ : (a b : ℤ) → sameInt a b ≡ false → (isLe (compareInt a b) ≡ intLe a b) × (intLe b a ≡ not (intLe a b))
+unfolding sameInt intLe compareInt
+int-differ (pos a) (pos b) e = (refl, nat-differ a b e)
+int-differ (pos a) (negsuc b) e = (refl, refl)
+int-differ (negsuc a) (pos b) e = (refl, refl)
+int-differ (negsuc a) (negsuc b) e = (refl, nat-differ b a (same-nat-sym a b e))
+  where
+    same-nat-sym : (a b : ℕ) → eqb a b ≡ false → eqb b a ≡ false
+    same-nat-sym a b e = let q = eqb-false a b e in ne-eqb b a (λ p. omega arith)
+
+-- floats: equal exactly if neither is below the other
+nat-trichotomy : (a b : ℕ) → eqb a b ≡ (not (ltb a b) && not (ltb b a))
+nat-trichotomy a b =
+    by-test (ltb a b)
+    (λ p. let l = ltb-true a b p in rw (p, ne-eqb a b (λ e. omega arith)))
+    (λ p.
+    let m = ltb-false a b p in
+    by-test (ltb b a)
+    (λ q. let l = ltb-true b a q in rw (p, q, ne-eqb a b (λ e. omega arith)))
+    (λ q. let l = ltb-false b a q in rw (p, q, eq-eqb a b (omega arith))))
+
+zero-sum : (a b : ℕ) → (eqb a b && eqb a 0) ≡ not (ltb 0 (a + b))
+zero-sum a b =
+    by-test (ltb 0 (a + b))
+    (λ p.
+    let l = ltb-true 0 (a + b) p in
+    by-test (eqb a b)
+    (λ q. let m = eqb-true a b q in rw (p, q, ne-eqb a 0 (λ e. omega arith)))
+    (λ q. rw (p, q)))
+    (λ p. let l = ltb-false 0 (a + b) p in rw (p, eq-eqb a b (omega arith), eq-eqb a 0 (omega arith)))
+
+level-below : (s : Bool) (a : ℕ) (t : Bool) (b : ℕ) → level s a t b ≡ (not (below s a t b) && not (below t b s a))
+level-below false a false b = rw and-true (nat-trichotomy a b)
+level-below false a true b = rw add-comm (zero-sum a b)
+level-below true a false b = rw and-true (zero-sum a b)
+level-below true a true b = rw (and-true, and-comm) (nat-trichotomy a b)
