@@ -2,14 +2,14 @@
 use Prim.Native.Nat.{ℕ, suc, _≤_, _<_, _+_, _*_, compare, Ordering, Ordering·lt, Ordering·eq, Ordering·gt}
 use native.Mathlib.Omega.{arith}
 use native.Mathlib.Nat.{add-comm}
-use mathlib.Core.Path.{_≡_, refl, sym, _∙_, ap, ap₂}
+use mathlib.Core.Path.{_≡_, refl, sym, _∙_, ap, ap₂, subst}
 use mathlib.Core.Bool.{Bool, true, false, _&&_, _||_, not, cond, Bool·beq, and-true, and-comm}
 use mathlib.Core.List.{List, [], _∷_, _++_, map}
 use mathlib.Core.Option.{Option, none, some}
-use lib.Dec.{eqb, leb, ltb, isLe}
+use lib.Dec.{T, eqb, leb, ltb, isLe}
 use lib.IntN.{ℤ, pos, negsuc}
 use lib.Ieee.{Float, nan, inf, fin, below, level, lt, eq, up, down, isNan, ofInt, neg}
-use borrow.Author.Tests.{eqb-true, eqb-false, eq-eqb, ne-eqb, ltb-true, ltb-false, lt-ltb, le-ltb, leb-true, leb-false, le-leb, lt-leb}
+use borrow.Author.Tests.{eqb-true, eqb-false, eq-eqb, ne-eqb, ltb-true, ltb-false, lt-ltb, le-ltb, leb-true, leb-false, le-leb, lt-leb, not-true}
 use Rattle.base.specs.Choice.{by-test, clash, or-left, or-right}
 use Rattle.base.specs.Map.{Entry, Map}
 use Rattle.base.specs.Entity.{Entity}
@@ -21,11 +21,11 @@ use Rattle.cascade.specs.Number.{whole}
 use Rattle.cascade.specs.Walk.{Answer, refused, layers, propertyMaps}
 use Rattle.cascade.specs.Style.{Style, Settings, styles}
 use Rattle.cascade.specs.Order.{TotalPreorder, andThenBy, intLe, boolLe, floatLe}
-use Rattle.cascade.specs.OrderLaws.{by-key, and-then, nat-order, int-order, bool-order, float-order}
+use Rattle.cascade.specs.OrderLaws.{by-key, and-then, nat-order, int-order, bool-order, float-order, lt-asym}
 use Rattle.cascade.specs.Sort.{sort, merge, Sorted, tied, Permutation}
 use Rattle.cascade.specs.SortLaws.{sort-permutes, sort-sorted, sort-stable, merge-sort, all-sort, sort-alike, merge-alike}
 use Rattle.cascade.specs.Draw.{Drawn, Drawing, declined, entries, layerRank, fillRank, zRank, idRank, notAfter, someNan, entityDrawing, join, stream, styleEntities, styleAreas, Ordered}
-use Rattle.cascade.specs.RustDraw.{sameInt, compareInt, compareBool, compareFloat, fill, compareStyled, notGreater, rustAreas}
+use Rattle.cascade.specs.RustDraw.{sameInt, compareInt, compareBool, compareFloat, fill, compareStyled, notGreater, rustEntities, rustAreas}
 
 -- ---- the order
 
@@ -187,3 +187,123 @@ level-below false a false b = rw and-true (nat-trichotomy a b)
 level-below false a true b = rw add-comm (zero-sum a b)
 level-below true a false b = rw and-true (zero-sum a b)
 level-below true a true b = rw (and-true, and-comm) (nat-trichotomy a b)
+
+float-trichotomy : (x y : Float) → isNan x ≡ false → isNan y ≡ false → eq x y ≡ (not (lt x y) && not (lt y x))
+unfolding eq lt isNan
+float-trichotomy nan y m n = clash refl m
+float-trichotomy (inf s) nan m n = clash refl n
+float-trichotomy (fin s a e) nan m n = clash refl n
+float-trichotomy (inf true) (inf true) m n = refl
+float-trichotomy (inf true) (inf false) m n = refl
+float-trichotomy (inf false) (inf true) m n = refl
+float-trichotomy (inf false) (inf false) m n = refl
+float-trichotomy (inf true) (fin t b d) m n = refl
+float-trichotomy (inf false) (fin t b d) m n = refl
+float-trichotomy (fin s a e) (inf true) m n = refl
+float-trichotomy (fin s a e) (inf false) m n = refl
+float-trichotomy (fin s a e) (fin t b d) m n = level-below s (a * up e * down d) t (b * up d * down e)
+
+module _ (x y : Float) (m : isNan x ≡ false) (n : isNan y ≡ false) where
+  float-same : eq x y ≡ true → (floatLe x y ≡ true) × (floatLe y x ≡ true)
+  unfolding floatLe
+  float-same e =
+      by-test (lt x y)
+      (λ p. clash e (float-trichotomy x y m n ∙ (rw p)))
+      (λ p.
+      by-test (lt y x)
+      (λ q. clash e (float-trichotomy x y m n ∙ (rw (p, q))))
+      (λ q. ((rw (floatLe, m, n, q)), (rw (floatLe, m, n, p)))))
+
+  float-differ : eq x y ≡ false → (isLe (compareFloat x y) ≡ floatLe x y) × (floatLe y x ≡ not (floatLe x y))
+  unfolding floatLe compareFloat
+  float-differ e =
+      by-test (lt x y)
+      (λ p.
+      by-test (lt y x)
+      (λ q. absurd (lt-asym x y (subst T (sym p) tt) (subst T (sym q) tt)))
+      (λ q. ((rw (compareFloat, floatLe, m, n, p, q)), (rw (floatLe, m, n, p, q)))))
+      (λ p.
+      by-test (lt y x)
+      (λ q. ((rw (compareFloat, floatLe, m, n, p, q)), (rw (floatLe, m, n, p, q))))
+      (λ q. clash (float-trichotomy x y m n ∙ (rw (p, q))) e))
+
+-- background first, unless for labels
+fill-key :
+    (l f g : Bool) (rest : Ordering) (rest′ : Bool)
+    → isLe rest ≡ rest′
+    → isLe (cond (not l && not (Bool·beq f g)) (compareBool f g) rest) ≡ (boolLe (not l && f) (not l && g) && (not (boolLe (not l && g) (not l && f)) || rest′))
+unfolding boolLe compareBool
+fill-key true f g rest rest′ r = r
+fill-key false true true rest rest′ r = r
+fill-key false true false rest rest′ r = refl
+fill-key false false true rest rest′ r = refl
+fill-key false false false rest rest′ r = r
+
+-- the Rust's comparison is the order
+pub rust-compare : (forLabels : Bool) (a b : Drawn) → noNan a ≡ true → noNan b ≡ true → notGreater forLabels a b ≡ notAfter forLabels a b
+unfolding compareStyled
+rust-compare forLabels a b m n =
+    let p = not-true (isNan (zRank a)) m in
+    let q = not-true (isNan (zRank b)) n in
+    by-one (sameInt (layerRank a) (layerRank b)) (intLe (layerRank a) (layerRank b)) (intLe (layerRank b) (layerRank a))
+    (compareInt (layerRank a) (layerRank b)) _ _ (int-same (layerRank a) (layerRank b))
+    (int-differ (layerRank a) (layerRank b))
+    (fill-key forLabels (fill a) (fill b) _ _
+    (by-one (eq (zRank a) (zRank b)) (floatLe (zRank a) (zRank b)) (floatLe (zRank b) (zRank a))
+    (compareFloat (zRank a) (zRank b)) (compare (idRank a) (idRank b)) (leb (idRank a) (idRank b))
+    (float-same (zRank a) (zRank b) p q) (float-differ (zRank a) (zRank b) p q) refl))
+
+-- each stream sorted by itself and the two merged, as the Rust does it, is the one sort
+merged :
+    (forLabels : Bool) (ms ws : List Drawn)
+    → All noNan ms
+    → All noNan ws
+    → merge (notGreater forLabels) (sort (notGreater forLabels) ms) (sort (notGreater forLabels) ws) ≡ sort (notAfter forLabels) (ms ++ ws)
+merged l ms ws a b =
+    merge-alike (notGreater l) (notAfter l) noNan (rust-compare l) (sort (notGreater l) ms) (sort (notGreater l) ws)
+    (all-sort (notGreater l) (notAfter l) noNan (rust-compare l) ms a)
+    (all-sort (notGreater l) (notAfter l) noNan (rust-compare l) ws b)
+    ∙ ap₂ (merge (notAfter l))
+    (sort-alike (notGreater l) (notAfter l) noNan (rust-compare l) ms a)
+    (sort-alike (notGreater l) (notAfter l) noNan (rust-compare l) ws b)
+    ∙ merge-sort (notAfter l) (drawing-order l) ms ws
+
+pub rust-entities :
+    (s : Settings) (z : ℕ) (rs : List (Rule Value)) (es : List Entity)
+    → rustEntities s z rs es ≡ styleEntities s z rs es
+unfolding join
+rust-entities s z rs es = go (stream false s z rs 0 es) refl
+  where
+    go :
+        (a : Drawing)
+        → stream false s z rs 0 es ≡ a
+        → join (λ xs ys. sort (notGreater (s .forLabels)) xs) a (entries []) ≡ join (λ xs ys. sort (notAfter (s .forLabels)) xs) a (entries [])
+    go (declined r) p = refl
+    go (entries xs) p =
+        ap entries
+        (sort-alike (notGreater (s .forLabels)) (notAfter (s .forLabels)) noNan (rust-compare (s .forLabels)) xs
+        (stream-shown false s z rs 0 es xs p))
+
+pub rust-areas :
+    (s : Settings) (z : ℕ) (rs : List (Rule Value)) (ways multipolygons : List Entity)
+    → rustAreas s z rs ways multipolygons ≡ styleAreas s z rs ways multipolygons
+unfolding join
+rust-areas s z rs ways multipolygons = go (stream false s z rs 0 ways) (stream true s z rs 0 multipolygons) refl refl
+  where
+    f : List Drawn → List Drawn → List Drawn
+    f ws ms = merge (notGreater (s .forLabels)) (sort (notGreater (s .forLabels)) ms) (sort (notGreater (s .forLabels)) ws)
+
+    g : List Drawn → List Drawn → List Drawn
+    g ws ms = sort (notAfter (s .forLabels)) (ms ++ ws)
+
+    go :
+        (a b : Drawing)
+        → stream false s z rs 0 ways ≡ a
+        → stream true s z rs 0 multipolygons ≡ b
+        → join f a b ≡ join g a b
+    go (declined r) b p q = refl
+    go (entries ws) (declined r) p q = refl
+    go (entries ws) (entries ms) p q =
+        ap entries
+        (merged (s .forLabels) ms ws (stream-shown true s z rs 0 multipolygons ms q)
+        (stream-shown false s z rs 0 ways ws p))

@@ -9,7 +9,7 @@ use Rattle.base.specs.Entity.{Entity}
 use Rattle.sheet.specs.Sheet.{Rule, Value}
 use Rattle.cascade.specs.Style.{Settings}
 use Rattle.cascade.specs.Sort.{sort, merge}
-use Rattle.cascade.specs.Draw.{Drawn, Drawing, layerRank, zRank, idRank, stream, join}
+use Rattle.cascade.specs.Draw.{Drawn, Drawing, entries, layerRank, zRank, idRank, stream, join}
 
 -- `==` and `cmp` of i64, `cmp` of bool
 unfoldable pub sameInt : ℤ → ℤ → Bool
@@ -49,7 +49,11 @@ compareStyled forLabels a b =
 abbrev pub notGreater : Bool → Drawn → Drawn → Bool
 notGreater forLabels a b = isLe (compareStyled forLabels a b)
 
--- each stream sorted by itself, then merged: of two that tie the multipolygon first
+-- style_entities
+abbrev pub rustEntities : Settings → ℕ → List (Rule Value) → List Entity → Drawing
+rustEntities s z rs es = join (λ xs ys. sort (notGreater (s .forLabels)) xs) (stream false s z rs 0 es) (entries [])
+
+-- style_areas: each stream sorted by itself, then merged: of two that tie the multipolygon first
 abbrev pub rustAreas : Settings → ℕ → List (Rule Value) → List Entity → List Entity → Drawing
 rustAreas s z rs ways multipolygons =
     join
