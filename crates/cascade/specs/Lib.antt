@@ -30,3 +30,4 @@ pub mod SortLaws
 pub mod Draw
 pub mod RustDraw
 pub mod DrawProof
+pub mod Numbered
