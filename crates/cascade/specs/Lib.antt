@@ -31,3 +31,4 @@ pub mod Draw
 pub mod RustDraw
 pub mod DrawProof
 pub mod Numbered
+pub mod Examples
