@@ -32,3 +32,5 @@ pub mod RustDraw
 pub mod DrawProof
 pub mod Numbered
 pub mod Examples
+pub mod WrongTurns
+pub mod IsolationExamples
