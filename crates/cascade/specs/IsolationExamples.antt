@@ -212,3 +212,73 @@ needs-equal-kinds claim =
     let p = claim casing 13 rs rs (record { kind = 1; id = 1; tags = [] }) (record { kind = 2; id = 1; tags = [] }) [] (layerWith casing 0 ∷ []) refl (λ x m. refl) refl refl in
     let z : _≡_ {A = ℕ} 0 1 = cc in
     omega arith
+
+-- ---- and of the style
+
+abbrev settings : Settings
+settings = record { styleType = josm; fontMultiplier = none; forLabels = false }
+
+-- the tags `layer` are read differently: 1 and 2
+pub needs-layer-alike :
+    ((k : Bytes) (z : ℕ) (rs qs : List (Rule Value)) (d e : Entity) (v w : Layers Value)
+    → strike k rs ≡ strike k qs
+    → Agree d e (strike k rs)
+    → propertyMaps z d rs ≡ layers v
+    → propertyMaps z e qs ≡ layers w
+    → same star k ≡ false
+    → (s : Settings)
+    → ((m : Map Value) → lookup k v ≡ some m → widthOf m ≡ none → widthOrZero (lookup defaultName v) ≡ widthOrZero (lookup defaultName w))
+    → lookup k (styles s d v) ≡ lookup k (styles s e w))
+    → ⊥
+unfolding same keep insert lookup member clauses present unaryHolds testVerdict applies fitsType testsVerdict verdict reaches receive
+    ensure step crowded walk propertyMaps andMap orElse negative unsigned afterDigits spelt wholeNumber ranged asInteger asNumber asDelta
+    widthOrZero baseWidth casingMultiplier casingOnly fullCasing styleFrom styles flatMap
+needs-layer-alike claim =
+    let rs = wayRule (some casing) [] (number (ascii "width") 1 ∷ []) ∷ [] in
+    let v = entry casing (number (ascii "width") 1 ∷ []) ∷ [] in
+    let p = claim casing 13 rs rs (road 1 (entry (ascii "layer") (ascii "1") ∷ [])) (road 1 (entry (ascii "layer") (ascii "2") ∷ [])) v v refl (record { kinds = refl; tags = λ k m. absurd (List·Memᴰ·not-nil m) }) refl refl refl settings (λ m q r. refl) in
+    let q = ap (andMap (λ s. s .layer)) p in
+    let z : _≡_ {A = ℕ} 1 2 = cc in
+    omega arith
+
+-- the default layer's widths differ, and the casing has none: way{width:4;} or way{width:5;}, then the casing
+abbrev wide : ℕ → List (Rule Value)
+wide n = wayRule none [] (number (ascii "width") n ∷ []) ∷ casingRule ∷ []
+
+abbrev wideLayers : ℕ → Layers Value
+wideLayers n = entry defaultName (number (ascii "width") n ∷ []) ∷ entry casing (number (ascii "casing-width") 1 ∷ []) ∷ []
+
+wide-left : (m n : ℕ) → strike casing (wide m) ≡ strike casing (wide n)
+unfolding keep same
+wide-left m n = refl
+
+wide-answers : (n : ℕ) → propertyMaps 13 one (wide n) ≡ layers (wideLayers n)
+unfolding same keep insert lookup member clauses present unaryHolds testVerdict applies fitsType testsVerdict verdict reaches receive
+    ensure step crowded walk propertyMaps
+wide-answers n = refl
+
+casingOf : ℕ → Option Float
+casingOf n = andMap (λ s. s .casingWidth) (lookup casing (styles settings one (wideLayers n)))
+
+casings-differ : casingOf 4 ≡ casingOf 5 → ⊥
+unfolding casingOf same keep lookup andMap orElse asNumber asDelta widthOrZero baseWidth casingMultiplier casingOnly fullCasing styleFrom
+    styles add mul ofInt
+casings-differ p = let z : _≡_ {A = ℕ} 3 7 = cc in omega arith
+
+pub needs-default-width :
+    ((k : Bytes) (z : ℕ) (rs qs : List (Rule Value)) (d e : Entity) (v w : Layers Value)
+    → strike k rs ≡ strike k qs
+    → Agree d e (strike k rs)
+    → propertyMaps z d rs ≡ layers v
+    → propertyMaps z e qs ≡ layers w
+    → same star k ≡ false
+    → (s : Settings)
+    → layerTag d ≡ layerTag e
+    → lookup k (styles s d v) ≡ lookup k (styles s e w))
+    → ⊥
+unfolding same casingOf
+needs-default-width claim =
+    casings-differ
+    (ap (andMap (λ s. s .casingWidth))
+    (claim casing 13 (wide 4) (wide 5) one one (wideLayers 4) (wideLayers 5) (wide-left 4 5)
+    (agree-self one (strike casing (wide 4))) (wide-answers 4) (wide-answers 5) refl settings refl))
