@@ -77,13 +77,17 @@ module _ {A : Type 0} where
       ∙ sym (foldl-append insert m (h .properties) (assignments (keep (reaches k) hs)))))
       (λ e. rw (receive, e) (receive-all k m hs))
 
-  folded-declared : (hs : List (Hit A)) (ks : List Bytes) → map (λ k. entry k (propertiesIn k hs)) ks ≡ map (λ k. entry k (overlay [] (assigned k hs))) ks
+  folded-declared :
+      (hs : List (Hit A)) (ks : List Bytes)
+      → map (λ k. entry k (propertiesIn k hs)) ks ≡ map (λ k. entry k (overlay [] (assigned k hs))) ks
   folded-declared hs [] = refl
   folded-declared hs (k ∷ ks) = rw (receive-all k [] hs, folded-declared hs ks)
 
   pub step-declared : (hs : List (Hit A)) (h : Hit A) → step (declared hs) h ≡ declared (hs ++ (h ∷ []))
   step-declared hs h =
-      ap (λ m. step m h) (sym (folded-declared hs (named hs))) ∙ step-folded hs h ∙ folded-declared (hs ++ (h ∷ [])) (named (hs ++ (h ∷ [])))
+      ap (λ m. step m h) (sym (folded-declared hs (named hs)))
+      ∙ step-folded hs h
+      ∙ folded-declared (hs ++ (h ∷ [])) (named (hs ++ (h ∷ [])))
 
   pub run-declared : (done hs : List (Hit A)) → foldl step (declared done) hs ≡ declared (done ++ hs)
   run-declared done [] = rw (append-nil done)

@@ -38,8 +38,7 @@ drawing-order forLabels =
 sort-ordered : (forLabels : Bool) (given ds : List Drawn) → ds ≡ sort (notAfter forLabels) given → Ordered forLabels given ds
 sort-ordered forLabels given ds e =
     rw e
-    (record
-    {
+    (record {
       permutes = sort-permutes (notAfter forLabels) given;
       sorted = sort-sorted (notAfter forLabels) (drawing-order forLabels) given;
       stable = λ d. sort-stable (notAfter forLabels) (drawing-order forLabels) d given;
@@ -73,10 +72,16 @@ joined f (entries xs) (declined r) ds p = declined-entries r ds p
 joined f (entries xs) (entries ys) ds p = (xs, ys, refl, refl, cc)
 
 module _ (mp : Bool) (s : Settings) where
-  shown : (i : ℕ) (e : Entity) (ls : Map Style) → someNan ls ≡ false → All noNan (map (λ l. record { multipolygon = mp; place = i; entity = e; layer = l .key; style = l .value }) ls)
+  shown :
+      (i : ℕ) (e : Entity) (ls : Map Style)
+      → someNan ls ≡ false
+      → All noNan (map (λ l. record { multipolygon = mp; place = i; entity = e; layer = l .key; style = l .value }) ls)
   unfolding All someNan
   shown i e [] h = tt
-  shown i e (l ∷ ls) h = ((rw (or-left (isNan (l .value .zIndex)) (someNan ls) h)), shown i e ls (or-right (isNan (l .value .zIndex)) (someNan ls) h))
+  shown i e (l ∷ ls) h = (
+    (rw (or-left (isNan (l .value .zIndex)) (someNan ls) h)),
+    shown i e ls (or-right (isNan (l .value .zIndex)) (someNan ls) h),
+  )
 
   entity-shown : (i : ℕ) (e : Entity) (a : Answer Value) (ds : List Drawn) → entityDrawing mp s i e a ≡ entries ds → All noNan ds
   unfolding entityDrawing
@@ -86,11 +91,15 @@ module _ (mp : Bool) (s : Settings) where
       (λ h. declined-entries (ofEntity 9 mp i) ds (rw h at p))
       (λ h.
       let q = rw h at p in
-      let r : map (λ (l : Entry Style). record { multipolygon = mp; place = i; entity = e; layer = l .key; style = l .value }) (styles s e v) ≡ ds = cc in
+      let r : map (λ (l : Entry Style). record { multipolygon = mp; place = i; entity = e; layer = l .key; style = l .value }) (styles s e v) ≡ ds =
+      cc in
       rw (← r) (shown i e (styles s e v) h))
 
   -- a NaN never comes to be sorted
-  pub stream-shown : (z : ℕ) (rs : List (Rule Value)) (i : ℕ) (es : List Entity) (ds : List Drawn) → stream mp s z rs i es ≡ entries ds → All noNan ds
+  pub stream-shown :
+      (z : ℕ) (rs : List (Rule Value)) (i : ℕ) (es : List Entity) (ds : List Drawn)
+      → stream mp s z rs i es ≡ entries ds
+      → All noNan ds
   unfolding stream All
   stream-shown z rs i [] ds p = let q : [] ≡ ds = cc in rw (← q) tt
   stream-shown z rs i (e ∷ es) ds p =
@@ -113,9 +122,13 @@ entities-ordered s z rs es ds p =
 pub areas-ordered :
     (s : Settings) (z : ℕ) (rs : List (Rule Value)) (ways multipolygons : List Entity) (ds : List Drawn)
     → styleAreas s z rs ways multipolygons ≡ entries ds
-    → (ws : List Drawn) × (ms : List Drawn) × (stream false s z rs 0 ways ≡ entries ws) × (stream true s z rs 0 multipolygons ≡ entries ms) × Ordered (s .forLabels) (ms ++ ws) ds
+    → (ws : List Drawn) × (ms : List Drawn) × (stream false s z rs 0 ways ≡ entries ws) ×
+    (stream true s z rs 0 multipolygons ≡ entries ms) × Ordered (s .forLabels) (ms ++ ws) ds
 areas-ordered s z rs ways multipolygons ds p =
-    let j = joined (λ ws ms. sort (notAfter (s .forLabels)) (ms ++ ws)) (stream false s z rs 0 ways) (stream true s z rs 0 multipolygons) ds p in
+    let j =
+    joined
+    (λ ws ms. sort (notAfter (s .forLabels)) (ms ++ ws))
+    (stream false s z rs 0 ways) (stream true s z rs 0 multipolygons) ds p in
     (j .0, j .1, j .2, j .3, sort-ordered (s .forLabels) (j .1 ++ j .0) ds (j .4))
 
 -- ---- the Rust's comparison
@@ -231,7 +244,8 @@ module _ (x y : Float) (m : isNan x ≡ false) (n : isNan y ≡ false) where
 fill-key :
     (l f g : Bool) (rest : Ordering) (rest′ : Bool)
     → isLe rest ≡ rest′
-    → isLe (cond (not l && not (Bool·beq f g)) (compareBool f g) rest) ≡ (boolLe (not l && f) (not l && g) && (not (boolLe (not l && g) (not l && f)) || rest′))
+    → isLe (cond (not l && not (Bool·beq f g)) (compareBool f g) rest) ≡
+    (boolLe (not l && f) (not l && g) && (not (boolLe (not l && g) (not l && f)) || rest′))
 unfolding boolLe compareBool
 fill-key true f g rest rest′ r = r
 fill-key false true true rest rest′ r = r
@@ -277,7 +291,11 @@ rust-entities s z rs es = go (stream false s z rs 0 es) refl
     go :
         (a : Drawing)
         → stream false s z rs 0 es ≡ a
-        → join (λ xs ys. sort (notGreater (s .forLabels)) xs) a (entries []) ≡ join (λ xs ys. sort (notAfter (s .forLabels)) xs) a (entries [])
+        → join
+        (λ xs ys. sort (notGreater (s .forLabels)) xs)
+        a (entries []) ≡ join
+        (λ xs ys. sort (notAfter (s .forLabels)) xs)
+        a (entries [])
     go (declined r) p = refl
     go (entries xs) p =
         ap entries

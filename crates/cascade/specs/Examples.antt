@@ -35,7 +35,9 @@ plateSheet =
     ∷ wayRule (some (ascii "c")) [] (entry (ascii "color") 1 ∷ []) ∷ wayRule (some (ascii "*")) [] (entry (ascii "width") 2 ∷ []) ∷ []
 
 pub plate :
-    propertyMaps 13 (openWay []) plateSheet ≡ layers (entry (ascii "*") (entry (ascii "width") 2 ∷ []) ∷ entry (ascii "c") (entry (ascii "width") 2 ∷ entry (ascii "color") 1 ∷ []) ∷ [])
+    propertyMaps 13 (openWay []) plateSheet ≡ layers
+    (entry (ascii "*") (entry (ascii "width") 2 ∷ []) ∷ entry (ascii "c")
+    (entry (ascii "width") 2 ∷ entry (ascii "color") 1 ∷ []) ∷ [])
 unfolding same insert lookup member clauses applies fitsType testsVerdict verdict reaches receive ensure step crowded walk propertyMaps
 plate = refl
 
@@ -55,16 +57,18 @@ judged cs = map (λ c. verdict (c .0) (openWay (c .1)) (c .2)) cs ≡ map (λ c.
 
 pub matching :
     judged (
-      (13, [], zoomed none (unary isFalse (ascii "x") ∷ []), pass) ∷ (13, x (ascii "no"), zoomed none (unary isFalse (ascii "x") ∷ []), pass) ∷
-      (13, x (ascii "1"), zoomed none (unary isFalse (ascii "x") ∷ []), fail) ∷ (13, x (ascii "5e2"), zoomed none (atLeast500 ∷ []), pass) ∷
-      (13, [], zoomed (some 13) [], pass) ∷ (12, [], zoomed (some 13) [], fail) ∷
-      (13, [], zoomed none (atLeast500 ∷ []), fail) ∷ (13, x (ascii "high"), zoomed none (atLeast500 ∷ []), fail) ∷
-      (13, [], zoomed none (text equal (ascii "x") (ascii "2") ∷ []), fail) ∷ (13, [], zoomed none (text notEqual (ascii "x") (ascii "2") ∷ []), pass) ∷
-      (13, x (ascii "2.0"), zoomed none (text equal (ascii "x") (ascii "2") ∷ []), fail) ∷
-      (13, x (ascii "1e23"), zoomed none (atLeast500 ∷ []), out) ∷
-      (12, x (ascii "1e23"), zoomed (some 13) (atLeast500 ∷ []), fail) ∷
-      (13, x (ascii "1e23"), zoomed none (unary notExists (ascii "x") ∷ atLeast500 ∷ []), fail) ∷
-      (13, x (ascii "1e23"), zoomed none (unary exists (ascii "x") ∷ atLeast500 ∷ []), out) ∷ []
+    (13, [], zoomed none (unary isFalse (ascii "x") ∷ []), pass) ∷
+    (13, x (ascii "no"), zoomed none (unary isFalse (ascii "x") ∷ []), pass) ∷
+    (13, x (ascii "1"), zoomed none (unary isFalse (ascii "x") ∷ []), fail) ∷ (13, x (ascii "5e2"), zoomed none (atLeast500 ∷ []), pass) ∷
+    (13, [], zoomed (some 13) [], pass) ∷ (12, [], zoomed (some 13) [], fail) ∷
+    (13, [], zoomed none (atLeast500 ∷ []), fail) ∷ (13, x (ascii "high"), zoomed none (atLeast500 ∷ []), fail) ∷
+    (13, [], zoomed none (text equal (ascii "x") (ascii "2") ∷ []), fail) ∷
+    (13, [], zoomed none (text notEqual (ascii "x") (ascii "2") ∷ []), pass) ∷
+    (13, x (ascii "2.0"), zoomed none (text equal (ascii "x") (ascii "2") ∷ []), fail) ∷
+    (13, x (ascii "1e23"), zoomed none (atLeast500 ∷ []), out) ∷
+    (12, x (ascii "1e23"), zoomed (some 13) (atLeast500 ∷ []), fail) ∷
+    (13, x (ascii "1e23"), zoomed none (unary notExists (ascii "x") ∷ atLeast500 ∷ []), fail) ∷
+    (13, x (ascii "1e23"), zoomed none (unary exists (ascii "x") ∷ atLeast500 ∷ []), out) ∷ []
     )
 unfolding same lookup present trueValue unaryHolds equals textHolds compares numberVerdict numericVerdict testVerdict testsVerdict
     fitsType applies verdict negative unsigned digits afterDigits spelt wholeNumber decimals afterDecimals exponentOf decimalFrom

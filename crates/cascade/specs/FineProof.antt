@@ -53,7 +53,10 @@ module _ {A : Type 0} where
   touch-none : (l : Bytes) (m : Layers A) → map (touch (hit l [])) m ≡ m
   unfolding receive
   touch-none l [] = refl
-  touch-none l (e ∷ m) = by-test (reaches {A = A} (e .key) (hit l [])) (λ p. rw (receive, p, touch-none l m)) (λ p. rw (receive, p, touch-none l m))
+  touch-none l (e ∷ m) =
+      by-test (reaches {A = A} (e .key) (hit l []))
+      (λ p. rw (receive, p, touch-none l m))
+      (λ p. rw (receive, p, touch-none l m))
 
   touch-more :
       (l : Bytes) (p : Entry A) (ps : List (Entry A)) (m : Layers A)

@@ -111,14 +111,16 @@ pub layers-differ : firstLayers ≡ secondLayers → ⊥
 layers-differ p = let q = ap length p in let z : _≡_ {A = ℕ} 2 3 = cc in omega arith
 
 -- so the layer is the same in both, and there
-pub met : (lookup casing firstLayers ≡ lookup casing secondLayers) × (lookup casing firstLayers ≡ some (number (ascii "casing-width") 1 ∷ []))
+pub met :
+    (lookup casing firstLayers ≡ lookup casing secondLayers) × (lookup casing firstLayers ≡ some (number (ascii "casing-width") 1 ∷ []))
 unfolding same lookup
 met = (isolated casing 13 first second one two firstLayers secondLayers left-equal agreeing first-answers second-answers, refl)
 
 pub style-met : (s : Settings) → lookup casing (styles s one firstLayers) ≡ lookup casing (styles s two secondLayers)
 unfolding same
 style-met s =
-    style-isolated casing 13 first second one two firstLayers secondLayers left-equal agreeing first-answers second-answers refl s layer-alike
+    style-isolated casing 13 first second one two firstLayers secondLayers left-equal agreeing first-answers
+    second-answers refl s layer-alike
     (λ m p q. widths-equal)
 
 -- ---- each hypothesis is needed: without it the claim is false
@@ -137,7 +139,10 @@ agree-self e rs = record { kinds = refl; tags = λ k m. refl }
 
 -- the selectors of the layer itself, those of "*" struck too
 abbrev ownRules : Bytes → List (Rule ℕ) → List (Rule ℕ)
-ownRules k rs = keep (λ r. hasOne (r .selectors)) (map (λ r. record { selectors = keep (λ s. same k (layerName s)) (r .selectors); properties = r .properties }) rs)
+ownRules k rs =
+    keep
+    (λ r. hasOne (r .selectors))
+    (map (λ r. record { selectors = keep (λ s. same k (layerName s)) (r .selectors); properties = r .properties }) rs)
 
 abbrev areaRule : Rule ℕ
 areaRule =
@@ -156,7 +161,9 @@ unfolding same keep insert lookup member clauses present unaryHolds testVerdict 
     ensure step crowded walk propertyMaps
 needs-equal-rules claim =
     let rs = numbered (some casing) [] 0 ∷ [] in
-    let p = claim casing 13 rs (numbered (some casing) [] 1 ∷ []) one one (layerWith casing 0 ∷ []) (layerWith casing 1 ∷ []) (agree-self one (strike casing rs)) refl refl in
+    let p =
+    claim casing 13 rs (numbered (some casing) [] 1 ∷ []) one one (layerWith casing 0 ∷ [])
+    (layerWith casing 1 ∷ []) (agree-self one (strike casing rs)) refl refl in
     let q = ap (λ o. lookup (ascii "width") (Option·getD o [])) p in
     let z : _≡_ {A = ℕ} 0 1 = cc in
     omega arith
@@ -174,7 +181,11 @@ unfolding same keep insert lookup member clauses present unaryHolds testVerdict 
     ensure step crowded walk propertyMaps
 needs-star-rules claim =
     let rs = numbered (some star) [] 0 ∷ wayRule (some casing) [] [] ∷ [] in
-    let p = claim casing 13 rs (numbered (some star) [] 1 ∷ wayRule (some casing) [] [] ∷ []) one one (layerWith star 0 ∷ layerWith casing 0 ∷ []) (layerWith star 1 ∷ layerWith casing 1 ∷ []) refl (agree-self one (strike casing rs)) refl refl in
+    let p =
+    claim casing 13 rs
+    (numbered (some star) [] 1 ∷ wayRule (some casing) [] [] ∷ []) one one
+    (layerWith star 0 ∷ layerWith casing 0 ∷ []) (layerWith star 1 ∷ layerWith casing 1 ∷ []) refl
+    (agree-self one (strike casing rs)) refl refl in
     let q = ap (λ o. lookup (ascii "width") (Option·getD o [])) p in
     let z : _≡_ {A = ℕ} 0 1 = cc in
     omega arith
@@ -209,7 +220,11 @@ unfolding same keep insert lookup member clauses present unaryHolds testVerdict 
     ensure step crowded walk propertyMaps
 needs-equal-kinds claim =
     let rs = areaRule ∷ [] in
-    let p = claim casing 13 rs rs (record { kind = 1; id = 1; tags = [] }) (record { kind = 2; id = 1; tags = [] }) [] (layerWith casing 0 ∷ []) refl (λ x m. refl) refl refl in
+    let p =
+    claim casing 13 rs rs (record { kind = 1; id = 1; tags = [] }) (record { kind = 2; id = 1; tags = [] }) []
+    (layerWith casing 0 ∷ []) refl
+    (λ x m. refl)
+    refl refl in
     let z : _≡_ {A = ℕ} 0 1 = cc in
     omega arith
 
@@ -236,7 +251,12 @@ unfolding same keep insert lookup member clauses present unaryHolds testVerdict 
 needs-layer-alike claim =
     let rs = wayRule (some casing) [] (number (ascii "width") 1 ∷ []) ∷ [] in
     let v = entry casing (number (ascii "width") 1 ∷ []) ∷ [] in
-    let p = claim casing 13 rs rs (road 1 (entry (ascii "layer") (ascii "1") ∷ [])) (road 1 (entry (ascii "layer") (ascii "2") ∷ [])) v v refl (record { kinds = refl; tags = λ k m. absurd (List·Memᴰ·not-nil m) }) refl refl refl settings (λ m q r. refl) in
+    let p =
+    claim casing 13 rs rs (road 1 (entry (ascii "layer") (ascii "1") ∷ []))
+    (road 1 (entry (ascii "layer") (ascii "2") ∷ [])) v v refl
+    (record { kinds = refl; tags = λ k m. absurd (List·Memᴰ·not-nil m) }) refl refl refl settings
+    (λ m q r. refl)
+    in
     let q = ap (andMap (λ s. s .layer)) p in
     let z : _≡_ {A = ℕ} 1 2 = cc in
     omega arith

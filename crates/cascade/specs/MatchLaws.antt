@@ -74,7 +74,8 @@ outside-out e t o = rw (o .numeric-is, o .tag-is, o .number-is)
 tests-reach :
     (e : Entity) (ts : List Test)
     → testsVerdict e ts ≡ out
-    → (earlier : List Test) × (t : Test) × (later : List Test) × (ts ≡ earlier ++ (t ∷ later)) × (testsVerdict e earlier ≡ pass) × (verdictOn e t ≡ out)
+    → (earlier : List Test) × (t : Test) × (later : List Test) × (ts ≡ earlier ++ (t ∷ later)) ×
+    (testsVerdict e earlier ≡ pass) × (verdictOn e t ≡ out)
 unfolding testsVerdict
 tests-reach e [] p = pass-out p
 tests-reach e (t ∷ ts) p =
@@ -85,7 +86,11 @@ tests-reach e (t ∷ ts) p =
     (λ v. fail-out (rw v at p))
     (λ v. ([], t, ts, refl, refl, v))
 
-tests-out : (e : Entity) (us : List Test) (t : Test) (bs : List Test) → testsVerdict e us ≡ pass → verdictOn e t ≡ out → testsVerdict e (us ++ (t ∷ bs)) ≡ out
+tests-out :
+    (e : Entity) (us : List Test) (t : Test) (bs : List Test)
+    → testsVerdict e us ≡ pass
+    → verdictOn e t ≡ out
+    → testsVerdict e (us ++ (t ∷ bs)) ≡ out
 unfolding testsVerdict
 tests-out e [] t bs p q = rw q
 tests-out e (a ∷ us) t bs p q =

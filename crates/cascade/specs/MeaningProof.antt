@@ -28,7 +28,8 @@ module _ {A : Type 0} where
   split-last :
       (n : Bytes) (bs : List (Entry A))
       → member n (map keyOf bs) ≡ true
-      → (before : List (Entry A)) × (x : A) × (after : List (Entry A)) × (bs ≡ before ++ (entry n x ∷ after)) × (member n (map keyOf after) ≡ false)
+      → (before : List (Entry A)) × (x : A) × (after : List (Entry A)) × (bs ≡ before ++ (entry n x ∷ after)) ×
+      (member n (map keyOf after) ≡ false)
   unfolding member
   split-last n [] h = clash h refl
   split-last n (b ∷ bs) h =
@@ -114,8 +115,7 @@ module _ {A : Type 0} (z : ℕ) (e : Entity) (rs : List (Rule A)) where
   declared-meaning : Meaning z e rs (declared all)
   unfolding lookup
   declared-meaning =
-      record
-      {
+      record {
         exists = λ k. (present-named k, named-present k);
         properties = λ k m p n. rw (the-map k m p, lookup-overlay n [] (assigned k all)) (last-is n (assigned k all));
         nameOrder = λ k m p. rw (the-map k m p) (keys-overlay [] (assigned k all));

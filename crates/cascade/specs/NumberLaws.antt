@@ -28,7 +28,13 @@ neg-value nan s a c v = v
 neg-value (inf t) s a c v = v
 neg-value (fin t m e) s a c v = (ap not (v .0), v .1)
 
-pub mul-value : (f : Format) (x y : Float) (s t : Bool) (a c b d : ℕ) → 0 < c → 0 < d → HasValue x s a c → HasValue y t b d → mul f x y ≡ round f (unlike s t) (a * b) (c * d)
+pub mul-value :
+    (f : Format) (x y : Float) (s t : Bool) (a c b d : ℕ)
+    → 0 < c
+    → 0 < d
+    → HasValue x s a c
+    → HasValue y t b d
+    → mul f x y ≡ round f (unlike s t) (a * b) (c * d)
 unfolding mul
 mul-value f nan y s t a c b d C D v w = absurd v
 mul-value f (inf s′) y s t a c b d C D v w = absurd v
@@ -39,7 +45,14 @@ mul-value f (fin s′ m e) (fin t′ n k) s t a c b d C D v w =
     ∙ round-same f (unlike s t) (m * up e * (n * up k)) (down e * down k) (a * b) (c * d) (mul-pos (down-pos e) (down-pos k)) (mul-pos C D)
     (mul-mul-mul-comm (m * up e) (n * up k) c d ∙ ap₂ (λ (x y : ℕ). x * y) (v .1) (w .1) ∙ mul-mul-mul-comm a (down e) b (down k))
 
-pub div-value : (f : Format) (x y : Float) (s t : Bool) (a c b d : ℕ) → 0 < c → 0 < d → 0 < b → HasValue x s a c → HasValue y t b d → div f x y ≡ round f (unlike s t) (a * d) (c * b)
+pub div-value :
+    (f : Format) (x y : Float) (s t : Bool) (a c b d : ℕ)
+    → 0 < c
+    → 0 < d
+    → 0 < b
+    → HasValue x s a c
+    → HasValue y t b d
+    → div f x y ≡ round f (unlike s t) (a * d) (c * b)
 unfolding div
 div-value f nan y s t a c b d C D B v w = absurd v
 div-value f (inf s′) y s t a c b d C D B v w = absurd v
@@ -51,7 +64,8 @@ div-value f (fin s′ m e) (fin t′ zero k) s t a c b d C D B v w =
 div-value f (fin s′ m e) (fin t′ (suc n) k) s t a c b d C D B v w =
     rw (eqb·suc-zero n)
     (ap₂ (λ (x y : Bool). round f (unlike x y) (m * up e * down k) (suc n * up k * down e)) (v .0) (w .0)
-    ∙ round-same f (unlike s t) (m * up e * down k) (suc n * up k * down e) (a * d) (c * b) (mul-pos (mul-pos (omega arith) (up-pos k)) (down-pos e)) (mul-pos C B)
+    ∙ round-same f (unlike s t) (m * up e * down k) (suc n * up k * down e) (a * d) (c * b)
+    (mul-pos (mul-pos (omega arith) (up-pos k)) (down-pos e)) (mul-pos C B)
     (mul-mul-mul-comm (m * up e) (down k) c b
     ∙ ap₂ (λ (x y : ℕ). x * y) (v .1) (mul-comm (down k) b ∙ sym (w .1) ∙ mul-comm (suc n * up k) d)
     ∙ mul-mul-mul-comm a (down e) d (suc n * up k)
@@ -79,7 +93,10 @@ unfolding tens
 tens-to zero k h e = let z : k ≡ 0 = omega arith in rw z (ten-value 0 (whole (10 ^ 0)) (subst T (sym e) tt))
 tens-to (suc n) k h e =
     by-test (eqb k (suc n))
-    (λ q. rw (eqb-true k (suc n) q) (ten-value (suc n) (whole (10 ^ suc n)) (subst T (sym (and-left (isTen (suc n) (whole (10 ^ suc n))) (tens n) e)) tt)))
+    (λ q.
+    rw (eqb-true k (suc n) q)
+    (ten-value (suc n) (whole (10 ^ suc n))
+    (subst T (sym (and-left (isTen (suc n) (whole (10 ^ suc n))) (tens n) e)) tt)))
     (λ q. let d = eqb-false k (suc n) q in tens-to n k (omega arith) (and-right (isTen (suc n) (whole (10 ^ suc n))) (tens n) e))
 
 ten-exact : (k : ℕ) → k ≤ 22 → HasValue (whole (10 ^ k)) false (10 ^ k) 1
@@ -144,7 +161,9 @@ scaled-nearest s d (negsuc k) h =
 
 pub value-is :
     (n : Decimal)
-    → valueOf (some n) ≡ cond (eqb (n .mantissa) 0) (reads (round binary64 (n .minus) 0 1)) (cond (ltb (n .mantissa) (2 ^ 53) && inReach (n .exponent)) (reads (nearest (n .minus) (n .mantissa) (n .exponent))) outOfRange)
+    → valueOf (some n) ≡ cond (eqb (n .mantissa) 0) (reads (round binary64 (n .minus) 0 1))
+    (cond (ltb (n .mantissa) (2 ^ 53) && inReach (n .exponent))
+    (reads (nearest (n .minus) (n .mantissa) (n .exponent))) outOfRange)
 unfolding valueOf
 value-is n =
     by-test (eqb (n .mantissa) 0)

@@ -112,7 +112,8 @@ module _ (name : ℕ → Bytes) where
 
 -- demand 3 for sheets that are held as tables: what the numbers stand for is compared, never the numbers
 pub isolated-numbered :
-    {A B C : Type 0} (f : A → C) (g : B → C) (z : ℕ) (k : Bytes) (rs : List (Rule A)) (qs : List (Rule B)) (d e : Entity) (v : Layers A) (w : Layers B)
+    {A B C : Type 0} (f : A → C) (g : B → C) (z : ℕ) (k : Bytes) (rs : List (Rule A)) (qs : List (Rule B))
+    (d e : Entity) (v : Layers A) (w : Layers B)
     → strike k (map (mapRule f) rs) ≡ strike k (map (mapRule g) qs)
     → Agree d e (strike k (map (mapRule f) rs))
     → propertyMaps z d rs ≡ layers v

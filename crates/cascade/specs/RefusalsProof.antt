@@ -69,7 +69,10 @@ module _ {A : Type 0} where
     unfolding hits
     hits-append cs ds = rw (keep-append (matched z e) cs ds, map-append)
 
-    hits-pass : (cs : List (Clause A)) (c : Clause A) → verdict z e (c .selector) ≡ pass → hits z e (cs ++ (c ∷ [])) ≡ hits z e cs ++ (toHit c ∷ [])
+    hits-pass :
+        (cs : List (Clause A)) (c : Clause A)
+        → verdict z e (c .selector) ≡ pass
+        → hits z e (cs ++ (c ∷ [])) ≡ hits z e cs ++ (toHit c ∷ [])
     unfolding hits keep
     hits-pass cs c v = hits-append cs (c ∷ []) ∙ (rw v)
 
@@ -78,16 +81,25 @@ module _ {A : Type 0} where
     hits-fail cs c v = hits-append cs (c ∷ []) ∙ (rw (v, append-nil))
 
     -- the layers after a matched selector
-    after-pass : (cs : List (Clause A)) (c : Clause A) → verdict z e (c .selector) ≡ pass → step (declared (hits z e cs)) (toHit c) ≡ declared (hits z e (cs ++ (c ∷ [])))
+    after-pass :
+        (cs : List (Clause A)) (c : Clause A)
+        → verdict z e (c .selector) ≡ pass
+        → step (declared (hits z e cs)) (toHit c) ≡ declared (hits z e (cs ++ (c ∷ [])))
     after-pass cs c v = step-declared (hits z e cs) (toHit c) ∙ ap declared (sym (hits-pass cs c v))
 
-    given-by : (cs : List (Clause A)) (c : Clause A) (n m : ℕ) → _≡_ {A = Answer A} (refused n) (refused m) → Cause z e cs c n → Cause z e cs c m
+    given-by :
+        (cs : List (Clause A)) (c : Clause A) (n m : ℕ)
+        → _≡_ {A = Answer A} (refused n) (refused m)
+        → Cause z e cs c n
+        → Cause z e cs c m
     given-by cs c n m p k = let q : n ≡ m = cc in subst (λ i. Cause z e cs c i) q k
 
     -- the first cause, after the clauses done
     abbrev Found : List (Clause A) → List (Clause A) → ℕ → Type 0
     Found done cs n =
-        (before : List (Clause A)) × (c : Clause A) × (after : List (Clause A)) × (cs ≡ before ++ (c ∷ after)) × (walk z e (declared (hits z e done)) before ≡ layers (declared (hits z e (done ++ before)))) × Cause z e (done ++ before) c n
+        (before : List (Clause A)) × (c : Clause A) × (after : List (Clause A)) × (cs ≡ before ++ (c ∷ after)) ×
+        (walk z e (declared (hits z e done)) before ≡ layers (declared (hits z e (done ++ before)))) × Cause
+        z e (done ++ before) c n
 
     at-once :
         (done : List (Clause A)) (c : Clause A) (cs : List (Clause A)) (m n : ℕ)
@@ -165,7 +177,13 @@ module _ {A : Type 0} where
         rw (v, after-pass before c v, l, lt-ltb 32 (length (named (hits z e (before ++ (c ∷ []))))) h)
     refuse before c after n (name129 v h m) =
         let l = length-declared (hits z e (before ++ (c ∷ []))) in
-        rw (v, after-pass before c v, l, le-ltb 32 (length (named (hits z e (before ++ (c ∷ []))))) h, many-crowded (hits z e (before ++ (c ∷ []))) m)
+        rw (
+          v,
+          after-pass before c v,
+          l,
+          le-ltb 32 (length (named (hits z e (before ++ (c ∷ []))))) h,
+          many-crowded (hits z e (before ++ (c ∷ []))) m,
+        )
 
     pub refused-exactly : (rs : List (Rule A)) (n : ℕ) → (propertyMaps z e rs ≡ refused n) ↔ Refuses z e rs n
     unfolding propertyMaps hits keep
@@ -174,8 +192,7 @@ module _ {A : Type 0} where
         there : propertyMaps z e rs ≡ refused n → Refuses z e rs n
         there p =
             let r = find [] (clauses rs) n p in
-            record
-            {
+            record {
               before = r .0;
               here = r .1;
               after = r .2;
@@ -187,7 +204,8 @@ module _ {A : Type 0} where
 
         back : Refuses z e rs n → propertyMaps z e rs ≡ refused n
         back r =
-            let v : r .sofar ≡ declared (hits z e (r .before)) = walk-hits z e [] (r .before) (r .sofar) (r .quiet) ∙ cascade-is (hits z e (r .before)) in
+            let v : r .sofar ≡ declared (hits z e (r .before)) =
+            walk-hits z e [] (r .before) (r .sofar) (r .quiet) ∙ cascade-is (hits z e (r .before)) in
             rw (r .stands, walk-append z e [] (r .before) (r .here ∷ r .after), r .quiet, v)
             (refuse (r .before) (r .here) (r .after) n (r .cause))
 

@@ -45,8 +45,8 @@ pub inherit-default : Right inheritSheet (entry (ascii "default") (width 0 ∷ [
 unfolding same insert lookup member clauses applies fitsType testsVerdict verdict reaches receive ensure step crowded walk propertyMaps
 inherit-default m =
     let e =
-        only inheritSheet (entry (ascii "default") (width 0 ∷ []) ∷ entry (ascii "c") (color 1 ∷ []) ∷ [])
-        (entry (ascii "default") (width 0 ∷ []) ∷ entry (ascii "c") (width 0 ∷ color 1 ∷ []) ∷ []) refl m in
+    only inheritSheet (entry (ascii "default") (width 0 ∷ []) ∷ entry (ascii "c") (color 1 ∷ []) ∷ [])
+    (entry (ascii "default") (width 0 ∷ []) ∷ entry (ascii "c") (width 0 ∷ color 1 ∷ []) ∷ []) refl m in
     let f = ap (at (ascii "c") (ascii "width")) e in
     let z : _≡_ {A = ℕ} 0 1 = cc in
     omega arith
@@ -59,8 +59,8 @@ pub overwritten-last : Right overwriteSheet (entry (ascii "default") (color 1 �
 unfolding same insert lookup member clauses applies fitsType testsVerdict verdict reaches receive ensure step crowded walk propertyMaps
 overwritten-last m =
     let e =
-        only overwriteSheet (entry (ascii "default") (width 2 ∷ color 1 ∷ []) ∷ [])
-        (entry (ascii "default") (color 1 ∷ width 2 ∷ []) ∷ []) refl m in
+    only overwriteSheet (entry (ascii "default") (width 2 ∷ color 1 ∷ []) ∷ [])
+    (entry (ascii "default") (color 1 ∷ width 2 ∷ []) ∷ []) refl m in
     let f = ap (values (ascii "default")) e in
     let z : _≡_ {A = ℕ} 2 1 = cc in
     omega arith
