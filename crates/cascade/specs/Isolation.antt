@@ -39,36 +39,43 @@ pub record Agree {A : Type 0} (d e : Entity) (rs : List (Rule A)) : Type 0 where
   pub kinds : d .kind ≡ e .kind
   pub tags : (k : Bytes) → List·Memᴰ k (testedKeys rs) → tag d k ≡ tag e k
 
--- the property maps
+-- "Take any layer name, any one zoom, any two accepted sheets and any entity for each." Here are the layer's name k, the zoom z,
+-- the rules rs and qs of the sheets, the entities d and e, and v and w, the layers that the two calls answer.
+pub record SameReach {A : Type 0} (k : Bytes) (z : ℕ) (rs qs : List (Rule A)) (d e : Entity) (v w : Layers A) : Type 0 where
+  -- "If the rules left are equal,"
+  pub rules : strike k rs ≡ strike k qs
+  -- "and the entities agree in kind and in each tag those rules test, then, whatever else the sheets say and whatever ids and
+  -- other tags the entities carry,"
+  pub entities : Agree d e (strike k rs)
+  -- "where neither call is refused,"
+  pub firstCall : propertyMaps z d rs ≡ layers v
+  pub secondCall : propertyMaps z e qs ≡ layers w
+
 abbrev pub Isolated : Type 0 → Type 0
 Isolated A =
-    -- "Take any layer name, any one zoom, any two accepted sheets and any entity for each."
     (k : Bytes) (z : ℕ) (rs qs : List (Rule A)) (d e : Entity) (v w : Layers A)
-    -- "If the rules left are equal,"
-    → strike k rs ≡ strike k qs
-    -- "and the entities agree in kind and in each tag those rules test, then, whatever else the sheets say
-    -- and whatever ids and other tags the entities carry,"
-    → Agree d e (strike k rs)
-    -- "where neither call is refused,"
-    → propertyMaps z d rs ≡ layers v
-    → propertyMaps z e qs ≡ layers w
+    → SameReach k z rs qs d e v w
     -- "demand 2's layer is in both or neither, with equal properties in equal order."
     → lookup k v ≡ lookup k w
 
--- the styles
+-- "the style is equal too if"
+pub record SameStyle (k : Bytes) (d e : Entity) (v w : Layers Value) : Type 0 where
+  -- "For a layer other than "*","
+  pub notStar : same star k ≡ false
+  -- "the "layer" tags are read alike": the same i64 or absent in both
+  pub layerTags : layerTag d ≡ layerTag e
+  -- "and, unless this layer has a one-number width, the default layer's widths are equal (none counts as 0)."
+  pub widths :
+      (m : Map Value)
+      → lookup k v ≡ some m
+      → widthOf m ≡ none
+      → widthOrZero (lookup defaultName v) ≡ widthOrZero (lookup defaultName w)
+
 abbrev pub StyleIsolated : Type 0
 StyleIsolated =
     (k : Bytes) (z : ℕ) (rs qs : List (Rule Value)) (d e : Entity) (v w : Layers Value)
-    → strike k rs ≡ strike k qs
-    → Agree d e (strike k rs)
-    → propertyMaps z d rs ≡ layers v
-    → propertyMaps z e qs ≡ layers w
-    -- "For a layer other than "*","
-    → same star k ≡ false
-    -- "under any equal settings, the style is equal too"
+    → SameReach k z rs qs d e v w
+    → SameStyle k d e v w
+    -- "under any equal settings"
     → (s : Settings)
-    -- "if the "layer" tags are read alike": the same i64 or absent in both
-    → layerTag d ≡ layerTag e
-    -- "and, unless this layer has a one-number width, the default layer's widths are equal (none counts as 0)."
-    → ((m : Map Value) → lookup k v ≡ some m → widthOf m ≡ none → widthOrZero (lookup defaultName v) ≡ widthOrZero (lookup defaultName w))
     → lookup k (styles s d v) ≡ lookup k (styles s e w)

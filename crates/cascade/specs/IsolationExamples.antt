@@ -19,7 +19,7 @@ use Rattle.cascade.specs.Match.{tag, present, unaryHolds, testVerdict, t
 use Rattle.cascade.specs.Cascade.{Layers, reaches, receive, ensure, step}
 use Rattle.cascade.specs.Walk.{Answer, layers, crowded, walk, propertyMaps}
 use Rattle.cascade.specs.Style.{Style, Settings, josm, mapsMe, casingMultiplier, asColor, asNumber, asIdentifier, asText, asDashes, asDelta, isBackground, defaultZ, layerTag, widthOf, widthOrZero, baseWidth, casingOnly, fullCasing, styleFrom, styles}
-use Rattle.cascade.specs.Isolation.{hasOne, strike, testedKeys, Agree, Isolated, StyleIsolated}
+use Rattle.cascade.specs.Isolation.{hasOne, strike, testedKeys, Agree, SameReach, SameStyle}
 use Rattle.cascade.specs.IsolationProof.{isolated, style-isolated}
 use Rattle.cascade.specs.Examples.{wayRule}
 
@@ -110,18 +110,22 @@ sheets-differ p = let q = ap length p in let z : _≡_ {A = ℕ} 2 4 = cc in ome
 pub layers-differ : firstLayers ≡ secondLayers → ⊥
 layers-differ p = let q = ap length p in let z : _≡_ {A = ℕ} 2 3 = cc in omega arith
 
--- so the layer is the same in both, and there
+-- so demand 3 applies: the layer is the same in both, and there
+pub reach-met : SameReach casing 13 first second one two firstLayers secondLayers
+reach-met = record { rules = left-equal; entities = agreeing; firstCall = first-answers; secondCall = second-answers }
+
+pub style-reach-met : SameStyle casing one two firstLayers secondLayers
+unfolding same
+style-reach-met = record { notStar = refl; layerTags = layer-alike; widths = λ m p q. widths-equal }
+
 pub met :
-    (lookup casing firstLayers ≡ lookup casing secondLayers) × (lookup casing firstLayers ≡ some (number (ascii "casing-width") 1 ∷ []))
+    (lookup casing firstLayers ≡ lookup casing secondLayers)
+    × (lookup casing firstLayers ≡ some (number (ascii "casing-width") 1 ∷ []))
 unfolding same lookup
-met = (isolated casing 13 first second one two firstLayers secondLayers left-equal agreeing first-answers second-answers, refl)
+met = (isolated casing 13 first second one two firstLayers secondLayers reach-met, refl)
 
 pub style-met : (s : Settings) → lookup casing (styles s one firstLayers) ≡ lookup casing (styles s two secondLayers)
-unfolding same
-style-met s =
-    style-isolated casing 13 first second one two firstLayers secondLayers left-equal agreeing first-answers
-    second-answers refl s layer-alike
-    (λ m p q. widths-equal)
+style-met = style-isolated casing 13 first second one two firstLayers secondLayers reach-met style-reach-met
 
 -- ---- each hypothesis is needed: without it the claim is false
 

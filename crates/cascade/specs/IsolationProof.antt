@@ -20,7 +20,7 @@ use Rattle.cascade.specs.Walk.{layers, isPass, toHit, propertyMaps, matc
 use Rattle.cascade.specs.WalkLaws.{maps-declared}
 use Rattle.cascade.specs.Style.{Settings, layerTag, styleOf, styles}
 use Rattle.cascade.specs.StyleLaws.{style-is, base-alike}
-use Rattle.cascade.specs.Isolation.{ofLayer, strikeSelectors, hasOne, strike, testedKeys, Agree, Isolated, StyleIsolated}
+use Rattle.cascade.specs.Isolation.{ofLayer, strikeSelectors, hasOne, strike, testedKeys, Agree, SameReach, Isolated, SameStyle, StyleIsolated}
 
 abbrev clauseIn : {A : Type 0} → Bytes → Clause A → Bool
 clauseIn k c = ofLayer k (c .selector)
@@ -110,19 +110,19 @@ module _ {A : Type 0} where
         rw (maps-declared z e rs v p, layer-declared k (hits z e (clauses rs)), ← hits-strike e k rs, named-kept k (hits z e (clauses rs)))
 
 pub isolated : {A : Type 0} → Isolated A
-isolated k z rs qs d e v w s a p q =
-    layer-struck z d k rs v p
-    ∙ ap (layerFrom k) (agree-hits z d e (strike k rs) a)
-    ∙ ap (λ x. layerFrom k (hits z e (clauses x))) s
-    ∙ sym (layer-struck z e k qs w q)
+isolated k z rs qs d e v w r =
+    layer-struck z d k rs v (r .firstCall)
+    ∙ ap (layerFrom k) (agree-hits z d e (strike k rs) (r .entities))
+    ∙ ap (λ x. layerFrom k (hits z e (clauses x))) (r .rules)
+    ∙ sym (layer-struck z e k qs w (r .secondCall))
 
 pub style-isolated : StyleIsolated
-style-isolated k z rs qs d e v w st a p q h s t wd =
-    rw (style-is k s d v h, style-is k s e w h)
+style-isolated k z rs qs d e v w r a s =
+    rw (style-is k s d v (a .notStar), style-is k s e w (a .notStar))
     (rw same-layer (by-option (lookup k w) (λ n. rw n) (λ m o. rw o (ap some (alike m (same-layer ∙ o))))))
   where
     same-layer : lookup k v ≡ lookup k w
-    same-layer = isolated k z rs qs d e v w st a p q
+    same-layer = isolated k z rs qs d e v w r
 
     alike : (m : Map Value) → lookup k v ≡ some m → styleOf s d (lookup defaultName v) m ≡ styleOf s e (lookup defaultName w) m
-    alike m o = rw (base-alike m (lookup defaultName v) (lookup defaultName w) (wd m o), t, a .kinds)
+    alike m o = rw (base-alike m (lookup defaultName v) (lookup defaultName w) (a .widths m o), a .layerTags, r .entities .kinds)

@@ -19,7 +19,7 @@ use Rattle.cascade.specs.Match.{verdict}
 use Rattle.cascade.specs.MatchLaws.{by-verdict}
 use Rattle.cascade.specs.Cascade.{Hit, Layers, reaches, receive, ensure, touch, step}
 use Rattle.cascade.specs.Walk.{Answer, refused, layers, toHit, crowded, admit, react, walk, propertyMaps}
-use Rattle.cascade.specs.Isolation.{strike, Agree}
+use Rattle.cascade.specs.Isolation.{strike, Agree, SameReach}
 use Rattle.cascade.specs.IsolationProof.{isolated}
 
 module _ {A B : Type 0} (f : A → B) where
@@ -112,19 +112,23 @@ module _ (name : ℕ → Bytes) where
 
 -- demand 3 for sheets that are held as tables: what the numbers stand for is compared, never the numbers
 pub isolated-numbered :
-    {A B C : Type 0} (f : A → C) (g : B → C) (z : ℕ) (k : Bytes) (rs : List (Rule A)) (qs : List (Rule B))
-    (d e : Entity) (v : Layers A) (w : Layers B)
+    {A B C : Type 0} (f : A → C) (g : B → C) (k : Bytes) (z : ℕ) (rs : List (Rule A)) (qs : List (Rule B)) (d e : Entity) (v : Layers A) (w : Layers B)
     → strike k (map (mapRule f) rs) ≡ strike k (map (mapRule g) qs)
     → Agree d e (strike k (map (mapRule f) rs))
     → propertyMaps z d rs ≡ layers v
     → propertyMaps z e qs ≡ layers w
     → mapOption (map (mapEntry f)) (lookup k v) ≡ mapOption (map (mapEntry g)) (lookup k w)
-isolated-numbered f g z k rs qs d e v w s a p q =
+isolated-numbered f g k z rs qs d e v w s a p q =
     rw
     (← lookup-map k (map (mapEntry f)) v, ← lookup-map k (map (mapEntry g)) w)
-    (isolated k z (map (mapRule f) rs) (map (mapRule g) qs) d e (mapLayers f v) (mapLayers g w) s a
-    (maps-mapped f z d rs ∙ ap (mapAnswer f) p)
-    (maps-mapped g z e qs ∙ ap (mapAnswer g) q))
+    (isolated k z (map (mapRule f) rs) (map (mapRule g) qs) d e (mapLayers f v) (mapLayers g w)
+    (record
+    {
+      rules = s;
+      entities = a;
+      firstCall = maps-mapped f z d rs ∙ ap (mapAnswer f) p;
+      secondCall = maps-mapped g z e qs ∙ ap (mapAnswer g) q;
+    }))
 
 -- a rule's properties over a row of numbers, as an overlay of entries
 pub assigns-spelled :
