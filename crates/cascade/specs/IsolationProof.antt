@@ -9,7 +9,7 @@ use Rattle.base.specs.Choice.{by-test}
 use Rattle.base.specs.Map.{Entry, Map, lookup, member}
 use Rattle.base.specs.Entity.{Entity}
 use Rattle.sheet.specs.Sheet.{Selector, Rule, Value}
-use Rattle.cascade.specs.Map.{overlay, keep}
+use Rattle.cascade.specs.Map.{overlay, keep, mapOption}
 use Rattle.cascade.specs.MapLaws.{by-option, keep-append, keep-map, keep-comm}
 use Rattle.cascade.specs.Clause.{star, defaultName, layerName, Clause, clause, clauses}
 use Rattle.cascade.specs.Match.{tag, testKey, verdict}
@@ -117,12 +117,14 @@ isolated k z rs qs d e v w r =
     ∙ sym (layer-struck z e k qs w (r .secondCall))
 
 pub style-isolated : StyleIsolated
-style-isolated k z rs qs d e v w r a s =
-    rw (style-is k s d v (a .notStar), style-is k s e w (a .notStar))
-    (rw same-layer (by-option (lookup k w) (λ n. rw n) (λ m o. rw o (ap some (alike m (same-layer ∙ o))))))
+style-isolated k z rs qs d e v w r a s = style-is k s d v (a .notStar) ∙ middle ∙ sym (style-is k s e w (a .notStar))
   where
     same-layer : lookup k v ≡ lookup k w
     same-layer = isolated k z rs qs d e v w r
 
     alike : (m : Map Value) → lookup k v ≡ some m → styleOf s d (lookup defaultName v) m ≡ styleOf s e (lookup defaultName w) m
     alike m o = rw (base-alike m (lookup defaultName v) (lookup defaultName w) (a .widths m o), a .layerTags, r .entities .kinds)
+
+    middle :
+        mapOption (styleOf s d (lookup defaultName v)) (lookup k v) ≡ mapOption (styleOf s e (lookup defaultName w)) (lookup k w)
+    middle = rw same-layer (by-option (lookup k w) (λ n. rw n) (λ m o. rw o (ap some (alike m (same-layer ∙ o)))))
