@@ -152,12 +152,14 @@ module _ {A : Type 0} where
         let a = after-pass done c v in
         by-test (ltb 32 (length w))
         (λ x.
-        at-once done c cs 23 n (layer33 v (rw (← l) (ltb-true 32 (length w) x))) (rw (v, a, x) at p))
+        let h = ltb-true 32 (length w) x in
+        at-once done c cs 23 n (layer33 v (omega arith)) (rw (v, a, x) at p))
         (λ x.
         by-test (crowded w)
         (λ y.
+        let h = ltb-false 32 (length w) x in
         at-once done c cs 24 n
-        (name129 v (rw (← l) (ltb-false 32 (length w) x)) (crowded-many (hits z e (done ++ (c ∷ []))) y))
+        (name129 v (omega arith) (crowded-many (hits z e (done ++ (c ∷ []))) y))
         (rw (v, a, x, y) at p))
         (λ y. past-pass done c cs n v x y (find (done ++ (c ∷ [])) cs n (rw (v, a, x, y) at p)))))
         (λ v. past-fail done c cs n v (find (done ++ (c ∷ [])) cs n (rw (hits-fail done c v) (rw v at p))))
@@ -174,14 +176,14 @@ module _ {A : Type 0} where
     refuse before c after n (outside t r o) = rw (reached-out z e (c .selector) t r o)
     refuse before c after n (layer33 v h) =
         let l = length-declared (hits z e (before ++ (c ∷ []))) in
-        rw (v, after-pass before c v, l, lt-ltb 32 (length (named (hits z e (before ++ (c ∷ []))))) h)
+        rw (v, after-pass before c v, l, lt-ltb 32 (length (named (hits z e (before ++ (c ∷ []))))) (omega arith))
     refuse before c after n (name129 v h m) =
         let l = length-declared (hits z e (before ++ (c ∷ []))) in
         rw (
           v,
           after-pass before c v,
           l,
-          le-ltb 32 (length (named (hits z e (before ++ (c ∷ []))))) h,
+          le-ltb 32 (length (named (hits z e (before ++ (c ∷ []))))) (omega arith),
           many-crowded (hits z e (before ++ (c ∷ []))) m,
         )
 
