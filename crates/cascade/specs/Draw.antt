@@ -1,10 +1,11 @@
 -- The drawing list: the styled layers of all entities in drawing order, or the refusal of the first entity that is refused.
-use Prim.Native.Nat.{ℕ, suc}
+use Prim.Native.Nat.{ℕ, suc, _+_}
 use mathlib.Core.Path.{_≡_}
 use mathlib.Core.Bool.{Bool, true, false, _&&_, _||_, not, cond}
 use mathlib.Core.List.{List, [], _∷_, _++_, map}
 use mathlib.Core.Option.{Option, none, some, Option·getD}
 use lib.Dec.{leb}
+use lib.ListN.{length}
 use lib.IntN.{ℤ, pos}
 use lib.Ieee.{Float, isNan}
 use Rattle.base.specs.Bytes.{Bytes}
@@ -98,3 +99,13 @@ pub record Ordered (forLabels : Bool) (given ds : List Drawn) : Type 0 where
   pub sorted : Sorted (notAfter forLabels) ds
   -- "ties keep input order"
   pub stable : (d : Drawn) → keep (tied (notAfter forLabels) d) ds ≡ keep (tied (notAfter forLabels) d) given
+
+-- "For a draw list the first refused entity decides": here is refused with r, and the entities before it are not refused
+pub record Declines (mp : Bool) (s : Settings) (z : ℕ) (rs : List (Rule Value)) (i : ℕ) (es : List Entity) (r : Refusal) : Type 0 where
+  pub before : List Entity
+  pub here : Entity
+  pub after : List Entity
+  pub stands : es ≡ before ++ (here ∷ after)
+  pub sofar : List Drawn
+  pub quiet : stream mp s z rs i before ≡ entries sofar
+  pub refuses : entityDrawing mp s (i + length before) here (propertyMaps z here rs) ≡ declined r

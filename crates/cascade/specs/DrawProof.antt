@@ -3,10 +3,12 @@ use Prim.Native.Nat.{ℕ, suc, _≤_, _<_, _+_, _*_, compare, Ordering, Ordering
 use native.Mathlib.Omega.{arith}
 use native.Mathlib.Nat.{add-comm}
 use mathlib.Core.Path.{_≡_, refl, sym, _∙_, ap, ap₂, subst}
+use mathlib.Core.Logic.{_↔_}
 use mathlib.Core.Bool.{Bool, true, false, _&&_, _||_, not, cond, Bool·beq, and-true, and-comm}
-use mathlib.Core.List.{List, [], _∷_, _++_, map}
+use mathlib.Core.List.{List, [], _∷_, _++_, map, append-assoc}
 use mathlib.Core.Option.{Option, none, some}
 use lib.Dec.{T, eqb, leb, ltb, isLe}
+use lib.ListN.{length}
 use lib.IntN.{ℤ, pos, negsuc}
 use lib.Ieee.{Float, nan, inf, fin, below, level, lt, eq, up, down, isNan, ofInt, neg}
 use borrow.Author.Tests.{eqb-true, eqb-false, eq-eqb, ne-eqb, ltb-true, ltb-false, lt-ltb, le-ltb, leb-true, leb-false, le-leb, lt-leb, not-true}
@@ -18,13 +20,14 @@ use Rattle.base.specs.declared.refusal.Refusal.{Refusal}
 use Rattle.sheet.specs.Sheet.{Rule, Value}
 use Rattle.cascade.specs.Map.{keep, All}
 use Rattle.cascade.specs.Number.{whole}
+use Rattle.cascade.specs.Cascade.{Layers}
 use Rattle.cascade.specs.Walk.{Answer, refused, layers, propertyMaps}
 use Rattle.cascade.specs.Style.{Style, Settings, styles}
 use Rattle.cascade.specs.Order.{TotalPreorder, andThenBy, intLe, boolLe, floatLe}
 use Rattle.cascade.specs.OrderLaws.{by-key, and-then, nat-order, int-order, bool-order, float-order, lt-asym}
 use Rattle.cascade.specs.Sort.{sort, merge, Sorted, tied, Permutation}
-use Rattle.cascade.specs.SortLaws.{sort-permutes, sort-sorted, sort-stable, merge-sort, all-sort, sort-alike, merge-alike}
-use Rattle.cascade.specs.Draw.{Drawn, Drawing, declined, entries, layerRank, fillRank, zRank, idRank, notAfter, someNan, entityDrawing, join, stream, styleEntities, styleAreas, Ordered}
+use Rattle.cascade.specs.SortLaws.{sort-permutes, sort-sorted, sort-stable, stable-one, merge-sort, all-sort, sort-alike, merge-alike}
+use Rattle.cascade.specs.Draw.{Drawn, Drawing, declined, entries, layerRank, fillRank, zRank, idRank, notAfter, someNan, entityDrawing, join, stream, styleEntities, styleAreas, Ordered, Declines}
 use Rattle.cascade.specs.RustDraw.{sameInt, compareInt, compareBool, compareFloat, fill, compareStyled, notGreater, rustEntities, rustAreas}
 
 -- ---- the order
@@ -43,6 +46,11 @@ sort-ordered forLabels given ds e =
       sorted = sort-sorted (notAfter forLabels) (drawing-order forLabels) given;
       stable = λ d. sort-stable (notAfter forLabels) (drawing-order forLabels) d given;
     })
+
+-- and leaves no choice: any sort that is stable gives this list
+pub ordered-one : (forLabels : Bool) (given ds es : List Drawn) → Ordered forLabels given ds → Ordered forLabels given es → ds ≡ es
+ordered-one forLabels given ds es a b =
+    stable-one (notAfter forLabels) (drawing-order forLabels) ds es (a .sorted) (b .sorted) (λ d. a .stable d ∙ sym (b .stable d))
 
 -- -0 and 0 rank equal
 pub zeros-tie : tied floatLe (whole 0) (neg (whole 0)) ≡ true
@@ -107,6 +115,93 @@ module _ (mp : Bool) (s : Settings) where
       rw (j .4)
       (all-append noNan (j .0) (j .1) (entity-shown i e (propertyMaps z e rs) (j .0) (j .2))
       (stream-shown z rs (suc i) es (j .1) (j .3)))
+
+-- ---- the first refused entity decides
+
+join-assoc : (a b c : Drawing) → join _++_ a (join _++_ b c) ≡ join _++_ (join _++_ a b) c
+unfolding join
+join-assoc (declined r) b c = refl
+join-assoc (entries xs) (declined r) c = refl
+join-assoc (entries xs) (entries ys) (declined r) = refl
+join-assoc (entries xs) (entries ys) (entries zs) = ap entries (sym (append-assoc xs ys zs))
+
+module _ (mp : Bool) (s : Settings) (z : ℕ) (rs : List (Rule Value)) where
+  abbrev one : ℕ → Entity → Drawing
+  one i e = entityDrawing mp s i e (propertyMaps z e rs)
+
+  join-nil : (d : Drawing) → join _++_ (entries []) d ≡ d
+  unfolding join
+  join-nil (declined r) = refl
+  join-nil (entries xs) = refl
+
+  stream-append :
+      (i : ℕ) (bs es : List Entity)
+      → stream mp s z rs i (bs ++ es) ≡ join _++_ (stream mp s z rs i bs) (stream mp s z rs (i + length bs) es)
+  unfolding stream
+  stream-append i [] es = let n : i + 0 ≡ i = omega arith in rw n (sym (join-nil (stream mp s z rs i es)))
+  stream-append i (b ∷ bs) es =
+      let n : i + suc (length bs) ≡ suc i + length bs = omega arith in
+      ap (join _++_ (one i b)) (stream-append (suc i) bs es)
+      ∙ join-assoc (one i b) (stream mp s z rs (suc i) bs) (stream mp s z rs (suc i + length bs) es)
+      ∙ ap (λ k. join _++_ (join _++_ (one i b) (stream mp s z rs (suc i) bs)) (stream mp s z rs k es)) (sym n)
+
+  declining :
+      (i : ℕ) (e : Entity) (es : List Entity) (r : Refusal) (d : Drawing)
+      → one i e ≡ d
+      → (stream mp s z rs (suc i) es ≡ declined r → Declines mp s z rs (suc i) es r)
+      → stream mp s z rs i (e ∷ es) ≡ declined r
+      → Declines mp s z rs i (e ∷ es) r
+  unfolding stream join
+  declining i e es r (declined q) p ih h =
+      let n : i + 0 ≡ i = omega arith in
+      let x = rw p at h in
+      let y : q ≡ r = cc in
+      record { before = []; here = e; after = es; stands = refl; sofar = []; quiet = refl; refuses = rw (n, ← y) p }
+  declining i e es r (entries xs) p ih h = go (stream mp s z rs (suc i) es) refl
+    where
+      go : (d : Drawing) → stream mp s z rs (suc i) es ≡ d → Declines mp s z rs i (e ∷ es) r
+      go (entries ys) q = let x = rw (p, q) at h in let w : _≡_ {A = ℕ} 0 1 = cc in absurd (omega arith)
+      go (declined q′) q =
+          let x = rw (p, q) at h in
+          let y : q′ ≡ r = cc in
+          let a = ih (q ∙ ap declined y) in
+          let n : i + suc (length (a .before)) ≡ suc i + length (a .before) = omega arith in
+          record
+          {
+            before = e ∷ a .before;
+            here = a .here;
+            after = a .after;
+            stands = ap (λ l. e ∷ l) (a .stands);
+            sofar = xs ++ a .sofar;
+            quiet = rw (p, a .quiet);
+            refuses = rw n (a .refuses);
+          }
+
+  pub declined-first : (i : ℕ) (es : List Entity) (r : Refusal) → stream mp s z rs i es ≡ declined r → Declines mp s z rs i es r
+  unfolding stream
+  declined-first i [] r h = let w : _≡_ {A = ℕ} 0 1 = cc in absurd (omega arith)
+  declined-first i (e ∷ es) r h = declining i e es r (one i e) refl (declined-first (suc i) es r) h
+
+  pub first-declines : (i : ℕ) (es : List Entity) (r : Refusal) → Declines mp s z rs i es r → stream mp s z rs i es ≡ declined r
+  unfolding stream join
+  first-declines i es r a =
+      rw (a .stands, stream-append i (a .before) (a .here ∷ a .after), a .quiet, a .refuses)
+
+-- an entity is refused as its walk is, or with 9 if a z-index of its styles is NaN
+pub entity-declined :
+    (mp : Bool) (s : Settings) (i : ℕ) (e : Entity) (v : Layers Value)
+    → (entityDrawing mp s i e (layers v) ≡ declined (ofEntity 9 mp i)) ↔ (someNan (styles s e v) ≡ true)
+unfolding entityDrawing
+entity-declined mp s i e v = (there, back)
+  where
+    there : entityDrawing mp s i e (layers v) ≡ declined (ofEntity 9 mp i) → someNan (styles s e v) ≡ true
+    there p =
+        by-test (someNan (styles s e v))
+        (λ h. h)
+        (λ h. let q = rw h at p in let w : _≡_ {A = ℕ} 0 1 = cc in absurd (omega arith))
+
+    back : someNan (styles s e v) ≡ true → entityDrawing mp s i e (layers v) ≡ declined (ofEntity 9 mp i)
+    back h = rw h
 
 -- ---- the promise of a drawing list
 
