@@ -99,7 +99,8 @@ module _ (mp : Bool) (s : Settings) where
       (λ h. declined-entries (ofEntity 9 mp i) ds (rw h at p))
       (λ h.
       let q = rw h at p in
-      let r : map (λ (l : Entry Style). record { multipolygon = mp; place = i; entity = e; layer = l .key; style = l .value }) (styles s e v) ≡ ds =
+      let r :
+      map (λ (l : Entry Style). record { multipolygon = mp; place = i; entity = e; layer = l .key; style = l .value }) (styles s e v) ≡ ds =
       cc in
       rw (← r) (shown i e (styles s e v) h))
 
@@ -145,6 +146,24 @@ module _ (mp : Bool) (s : Settings) (z : ℕ) (rs : List (Rule Value)) where
       ∙ join-assoc (one i b) (stream mp s z rs (suc i) bs) (stream mp s z rs (suc i + length bs) es)
       ∙ ap (λ k. join _++_ (join _++_ (one i b) (stream mp s z rs (suc i) bs)) (stream mp s z rs k es)) (sym n)
 
+  past :
+      (i : ℕ) (e : Entity) (es : List Entity) (r : Refusal) (xs : List Drawn)
+      → one i e ≡ entries xs
+      → Declines mp s z rs (suc i) es r
+      → Declines mp s z rs i (e ∷ es) r
+  unfolding stream join
+  past i e es r xs p a =
+      let n : i + suc (length (a .before)) ≡ suc i + length (a .before) = omega arith in
+      record {
+        before = e ∷ a .before;
+        here = a .here;
+        after = a .after;
+        stands = ap (λ l. e ∷ l) (a .stands);
+        sofar = xs ++ a .sofar;
+        quiet = rw (p, a .quiet);
+        refuses = rw n (a .refuses);
+      }
+
   declining :
       (i : ℕ) (e : Entity) (es : List Entity) (r : Refusal) (d : Drawing)
       → one i e ≡ d
@@ -164,18 +183,7 @@ module _ (mp : Bool) (s : Settings) (z : ℕ) (rs : List (Rule Value)) where
       go (declined q′) q =
           let x = rw (p, q) at h in
           let y : q′ ≡ r = cc in
-          let a = ih (q ∙ ap declined y) in
-          let n : i + suc (length (a .before)) ≡ suc i + length (a .before) = omega arith in
-          record
-          {
-            before = e ∷ a .before;
-            here = a .here;
-            after = a .after;
-            stands = ap (λ l. e ∷ l) (a .stands);
-            sofar = xs ++ a .sofar;
-            quiet = rw (p, a .quiet);
-            refuses = rw n (a .refuses);
-          }
+          past i e es r xs p (ih (rw y at q))
 
   pub declined-first : (i : ℕ) (es : List Entity) (r : Refusal) → stream mp s z rs i es ≡ declined r → Declines mp s z rs i es r
   unfolding stream

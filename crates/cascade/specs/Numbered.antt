@@ -112,7 +112,8 @@ module _ (name : ℕ → Bytes) where
 
 -- demand 3 for sheets that are held as tables: what the numbers stand for is compared, never the numbers
 pub isolated-numbered :
-    {A B C : Type 0} (f : A → C) (g : B → C) (k : Bytes) (z : ℕ) (rs : List (Rule A)) (qs : List (Rule B)) (d e : Entity) (v : Layers A) (w : Layers B)
+    {A B C : Type 0} (f : A → C) (g : B → C) (k : Bytes) (z : ℕ) (rs : List (Rule A)) (qs : List (Rule B))
+    (d e : Entity) (v : Layers A) (w : Layers B)
     → strike k (map (mapRule f) rs) ≡ strike k (map (mapRule g) qs)
     → Agree d e (strike k (map (mapRule f) rs))
     → propertyMaps z d rs ≡ layers v
@@ -122,8 +123,7 @@ isolated-numbered f g k z rs qs d e v w s a p q =
     rw
     (← lookup-map k (map (mapEntry f)) v, ← lookup-map k (map (mapEntry g)) w)
     (isolated k z (map (mapRule f) rs) (map (mapRule g) qs) d e (mapLayers f v) (mapLayers g w)
-    (record
-    {
+    (record {
       rules = s;
       entities = a;
       firstCall = maps-mapped f z d rs ∙ ap (mapAnswer f) p;

@@ -23,7 +23,7 @@ use Rattle.cascade.specs.MatchLaws.{by-verdict, out-reached, reached-out
 use Rattle.cascade.specs.Cascade.{Hit, Layers, layerOf, step, named, assigned, declared}
 use Rattle.cascade.specs.CascadeLaws.{step-declared, cascade-is, named-member}
 use Rattle.cascade.specs.Walk.{Answer, refused, layers, toHit, crowded, admit, react, continue, walk, propertyMaps, matched, hits}
-use Rattle.cascade.specs.WalkLaws.{refused-layers, walk-hits, walk-append, maps-declared}
+use Rattle.cascade.specs.WalkLaws.{hits-append, refused-layers, walk-hits, walk-append, maps-declared}
 use Rattle.cascade.specs.Refusals.{ManyNames, Cause, outside, layer33, name129, Refuses}
 
 module _ {A : Type 0} where
@@ -65,20 +65,16 @@ module _ {A : Type 0} where
   length-declared hs = length-map (named hs) (λ k. entry k (overlay [] (assigned k hs)))
 
   module _ (z : ℕ) (e : Entity) where
-    pub hits-append : (cs ds : List (Clause A)) → hits z e (cs ++ ds) ≡ hits z e cs ++ hits z e ds
-    unfolding hits
-    hits-append cs ds = rw (keep-append (matched z e) cs ds, map-append)
-
     hits-pass :
         (cs : List (Clause A)) (c : Clause A)
         → verdict z e (c .selector) ≡ pass
         → hits z e (cs ++ (c ∷ [])) ≡ hits z e cs ++ (toHit c ∷ [])
     unfolding hits keep
-    hits-pass cs c v = hits-append cs (c ∷ []) ∙ (rw v)
+    hits-pass cs c v = hits-append z e cs (c ∷ []) ∙ (rw v)
 
     hits-fail : (cs : List (Clause A)) (c : Clause A) → verdict z e (c .selector) ≡ fail → hits z e (cs ++ (c ∷ [])) ≡ hits z e cs
     unfolding hits keep
-    hits-fail cs c v = hits-append cs (c ∷ []) ∙ (rw (v, append-nil))
+    hits-fail cs c v = hits-append z e cs (c ∷ []) ∙ (rw (v, append-nil))
 
     -- the layers after a matched selector
     after-pass :

@@ -1,12 +1,17 @@
--- The cascade as styler.rs runs it, statement by statement: style_area after area_matches.
+-- The cascade as styler.rs runs it, statement by statement: style_area.
+use Prim.Native.Nat.{ℕ}
 use mathlib.Core.Bool.{cond}
 use mathlib.Core.List.{List, [], _∷_, _++_, map, foldl}
 use mathlib.Core.Option.{Option·getD}
 use Rattle.base.specs.Bytes.{Bytes, same}
 use Rattle.base.specs.Map.{Entry, Map, entry, keyOf, lookup, member}
-use Rattle.cascade.specs.Map.{overlay}
-use Rattle.cascade.specs.Clause.{star}
+use Rattle.base.specs.Entity.{Entity}
+use Rattle.sheet.specs.Sheet.{Rule}
+use Rattle.cascade.specs.Map.{overlay, keep}
+use Rattle.cascade.specs.Clause.{star, layerName}
+use Rattle.cascade.specs.Match.{verdict}
 use Rattle.cascade.specs.Cascade.{Hit, Layers}
+use Rattle.cascade.specs.Walk.{isPass}
 
 module _ {A : Type 0} where
   -- `if !result.contains_key(layer_id) { result.insert(layer_id, result.get("*").cloned().unwrap_or_default()) }`
@@ -32,5 +37,14 @@ module _ {A : Type 0} where
       let first = updateLayer (h .layer) (h .properties) (addLayer (h .layer) m) in
       cond (same star (h .layer)) (map (updateOther (h .properties)) first) first
 
-  abbrev pub styleArea : List (Hit A) → Layers A
-  styleArea = foldl rustStep []
+-- `for rule in &self.rules { for sel in rule.selectors.iter().filter(|x| area_matches(area, x, zoom)) { .. } }`
+module _ {A : Type 0} (z : ℕ) (e : Entity) where
+  abbrev pub styleRule : Layers A → Rule A → Layers A
+  styleRule m r =
+      foldl
+      (λ w s. rustStep w (record { layer = layerName s; properties = r .properties }))
+      m
+      (keep (λ s. isPass (verdict z e s)) (r .selectors))
+
+  abbrev pub styleArea : List (Rule A) → Layers A
+  styleArea = foldl styleRule []

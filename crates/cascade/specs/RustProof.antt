@@ -1,18 +1,24 @@
 -- The Rust's cascade is the declared one.
+use Prim.Native.Nat.{ℕ}
 use mathlib.Core.Path.{_≡_, refl, sym, _∙_, ap}
 use mathlib.Core.Bool.{Bool, true, false, _||_, cond, or-true}
-use mathlib.Core.List.{List, [], _∷_, _++_, map, map-append, map-map, foldl}
+use mathlib.Core.List.{List, [], _∷_, _++_, map, map-append, map-map, foldl, foldl-append}
 use mathlib.Core.Option.{Option, none, some, Option·getD}
 use Rattle.base.specs.Bytes.{Bytes, same}
 use Rattle.base.specs.Choice.{by-test, clash, or-left, or-right}
 use Rattle.base.specs.Map.{Entry, Map, entry, keyOf, lookup, member}
+use Rattle.base.specs.Entity.{Entity}
 use Rattle.base.proofs.Compare.{same-refl, same-true, same-sym}
-use Rattle.cascade.specs.Map.{overlay, DistinctKeys}
-use Rattle.cascade.specs.MapLaws.{distinct-snoc}
-use Rattle.cascade.specs.Clause.{star}
+use Rattle.sheet.specs.Sheet.{Selector, Rule}
+use Rattle.cascade.specs.Map.{overlay, keep, DistinctKeys}
+use Rattle.cascade.specs.MapLaws.{distinct-snoc, keep-append}
+use Rattle.cascade.specs.Clause.{star, layerName, Clause, clause, clauses}
+use Rattle.cascade.specs.Match.{verdict}
 use Rattle.cascade.specs.Cascade.{Hit, Layers, reaches, receive, ensure, touch, step, declared}
 use Rattle.cascade.specs.CascadeLaws.{cascade-is}
-use Rattle.cascade.specs.Rust.{addLayer, updateEntry, updateLayer, updateOther, rustStep, styleArea}
+use Rattle.cascade.specs.Walk.{layers, isPass, matched, toHit, propertyMaps, hits}
+use Rattle.cascade.specs.WalkLaws.{maps-declared, hits-append}
+use Rattle.cascade.specs.Rust.{addLayer, updateEntry, updateLayer, updateOther, rustStep, styleRule, styleArea}
 
 module _ {A : Type 0} where
   untouched : (h : Hit A) (m : Layers A) → same star (h .layer) ≡ false → member (h .layer) (map keyOf m) ≡ false → map (touch h) m ≡ m
@@ -92,5 +98,34 @@ module _ {A : Type 0} where
   rust-cascade m [] d = refl
   rust-cascade m (h ∷ hs) d = rw (rust-step m h (ensure-distinct m (h .layer) d)) (rust-cascade (step m h) hs (step-distinct m h d))
 
-  pub style-area-is : (hs : List (Hit A)) → styleArea hs ≡ declared hs
-  style-area-is hs = rust-cascade [] hs tt ∙ cascade-is hs
+  module _ (z : ℕ) (e : Entity) where
+    one-rule :
+        (ps : List (Entry A)) (m : Layers A) (ss : List Selector)
+        → foldl
+        (λ w s. rustStep w (record { layer = layerName s; properties = ps }))
+        m (keep (λ s. isPass (verdict z e s)) ss) ≡ foldl rustStep m (hits z e (map (clause ps) ss))
+    unfolding hits keep
+    one-rule ps m [] = refl
+    one-rule ps m (s ∷ ss) =
+        by-test (isPass (verdict z e s))
+        (λ p. rw p (one-rule ps (rustStep m (record { layer = layerName s; properties = ps })) ss))
+        (λ p. rw p (one-rule ps m ss))
+
+    all-rules : (m : Layers A) (rs : List (Rule A)) → foldl (styleRule z e) m rs ≡ foldl rustStep m (hits z e (clauses rs))
+    unfolding clauses hits keep
+    all-rules m [] = refl
+    all-rules m (r ∷ rs) =
+        rw (
+          hits-append z e (map (clause (r .properties)) (r .selectors)) (clauses rs),
+          foldl-append rustStep m (hits z e (map (clause (r .properties)) (r .selectors))) (hits z e (clauses rs)),
+          ← one-rule (r .properties) m (r .selectors),
+        )
+        (all-rules (styleRule z e m r) rs)
+
+    -- where nothing is refused, the layers are the Rust's
+    pub rust-maps : (rs : List (Rule A)) (v : Layers A) → propertyMaps z e rs ≡ layers v → v ≡ styleArea z e rs
+    rust-maps rs v p =
+        maps-declared z e rs v p
+        ∙ sym (cascade-is (hits z e (clauses rs)))
+        ∙ sym (rust-cascade [] (hits z e (clauses rs)) tt)
+        ∙ sym (all-rules [] rs)

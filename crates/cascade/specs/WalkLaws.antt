@@ -3,7 +3,7 @@ use Prim.Native.Nat.{ℕ, _≤_}
 use native.Mathlib.Omega.{arith}
 use mathlib.Core.Path.{_≡_, refl, sym, _∙_, ap}
 use mathlib.Core.Bool.{Bool, true, false, cond}
-use mathlib.Core.List.{List, [], _∷_, _++_, map, foldl}
+use mathlib.Core.List.{List, [], _∷_, _++_, map, map-append, foldl}
 use lib.Dec.{ltb}
 use lib.ListN.{length}
 use borrow.Author.Tests.{ltb-false}
@@ -11,6 +11,7 @@ use Rattle.base.specs.Choice.{by-test}
 use Rattle.base.specs.Entity.{Entity}
 use Rattle.sheet.specs.Sheet.{Rule}
 use Rattle.cascade.specs.Map.{keep}
+use Rattle.cascade.specs.MapLaws.{keep-append}
 use Rattle.cascade.specs.Clause.{Clause, clauses}
 use Rattle.cascade.specs.Match.{Verdict, pass, fail, out, applies, verdict}
 use Rattle.cascade.specs.MatchLaws.{by-verdict, verdict-unfit}
@@ -70,6 +71,10 @@ module _ {A : Type 0} (z : ℕ) (e : Entity) where
       rw (v, walk-append (step m (toHit c)) cs ds, continue-admit (step m (toHit c)) (walk z e (step m (toHit c)) cs)))
       (λ v. rw (v, walk-append m cs ds))
       (λ v. rw v)
+
+  pub hits-append : (cs ds : List (Clause A)) → hits z e (cs ++ ds) ≡ hits z e cs ++ hits z e ds
+  unfolding hits
+  hits-append cs ds = rw (keep-append (matched z e) cs ds, map-append)
 
   -- what is not refused keeps the bounds: 32 layers, 128 names in each
   walk-bounds :
