@@ -4,6 +4,8 @@ pub mod Clause
 pub mod Number
 pub mod NumberLaws
 pub mod NumberExamples
+pub mod NumberGrammar
+pub mod NumberGrammarProof
 pub mod Match
 pub mod MatchLaws
 pub mod Cascade
