@@ -267,3 +267,66 @@ word-reads v x (infinity s t m g e) =
 word-reads v x (notNumber s t m g e) =
     let r = sign-read s t m g (plain-word t 110 (97 ∷ 110 ∷ []) e (omega arith)) in
     rw (r .0, r .1, e)
+
+-- what is read as a decimal spells it
+decimal-spelt : (v : Bytes) (n : Decimal) → decimalOf (negative v) (unsigned v) ≡ some n → Spells v n
+unfolding decimalFrom
+decimal-spelt v n p = go (exponentOf (afterDecimals (afterDigits (unsigned v)))) refl
+  where
+    rest : Bytes
+    rest = afterDigits (unsigned v)
+
+    go : (o : Option ℤ) → exponentOf (afterDecimals rest) ≡ o → Spells v n
+    go none q = none-some n (rw q at p)
+    go (some e) q =
+        let g = sign-spelt v in
+        let i = digits-all (unsigned v) in
+        let f = fraction-spelt rest in
+        let d = from-spelt (negative v) (digits (unsigned v)) (decimals rest) e n (rw q at p) in
+        record
+        {
+          sign = g .0;
+          whole = digits (unsigned v);
+          fraction = f .0;
+          decimals = decimals rest;
+          exponent = afterDecimals rest;
+          power = e;
+          text = g .2 ∙ ap (λ y. (g .0) ++ y) (i .1 ∙ ap (λ y. digits (unsigned v) ++ y) (f .2));
+          signed = subst (λ b. Sign (g .0) b) (ap (λ y. y .minus) (d .1)) (g .1);
+          digits = i .0;
+          fractional = f .1;
+          scaled = exponent-spelt (afterDecimals rest) e q;
+          some = d .0;
+          mantissa-is = sym (ap (λ y. y .mantissa) (d .1));
+          exponent-is = sym (ap (λ y. y .exponent) (d .1));
+        }
+
+-- every text spells a decimal, is a word, or is malformed
+pub numbers-only : (v : Bytes) → ((n : Decimal) × Spells v n) ⊎ (((x : Float) × Word v x) ⊎ (tagNumber v ≡ malformed))
+unfolding tagNumber unsignedNumber valueOf
+numbers-only v =
+    by-test (same l (ascii "inf"))
+    (λ p. inr (inl (inf (negative v), subst (λ y. Word y (inf (negative v))) (sym (g .2)) (infinite (g .0) (unsigned v) (negative v) (g .1) (same-true l (ascii "inf") p)))))
+    (λ p.
+    by-test (same l (ascii "infinity"))
+    (λ q. inr (inl (inf (negative v), subst (λ y. Word y (inf (negative v))) (sym (g .2)) (infinity (g .0) (unsigned v) (negative v) (g .1) (same-true l (ascii "infinity") q)))))
+    (λ q.
+    by-test (same l (ascii "nan"))
+    (λ r. inr (inl (nan, subst (λ y. Word y nan) (sym (g .2)) (notNumber (g .0) (unsigned v) (negative v) (g .1) (same-true l (ascii "nan") r)))))
+    (λ r. go (decimalOf (negative v) (unsigned v)) refl p q r)))
+  where
+    l : Bytes
+    l = map lowerCase (unsigned v)
+
+    g : (s : Bytes) × Sign s (negative v) × (v ≡ s ++ unsigned v)
+    g = sign-spelt v
+
+    go :
+        (o : Option Decimal)
+        → decimalOf (negative v) (unsigned v) ≡ o
+        → same l (ascii "inf") ≡ false
+        → same l (ascii "infinity") ≡ false
+        → same l (ascii "nan") ≡ false
+        → ((n : Decimal) × Spells v n) ⊎ (((x : Float) × Word v x) ⊎ (tagNumber v ≡ malformed))
+    go none d p q r = inr (inr (rw (p, q, r, d)))
+    go (some n) d p q r = inl (n, decimal-spelt v n d)
