@@ -1,4 +1,4 @@
--- Which texts are tag numbers, as a grammar: "optional sign, at least one digit with an optional dot, optional exponent (e or E,
+-- Which texts are tag numbers and `layer` tags, as a grammar: "optional sign, at least one digit with an optional dot, optional exponent (e or E,
 -- optional sign, at least one digit); or after the sign inf, infinity, nan in any case".
 use Prim.Native.Nat.{ℕ}
 use mathlib.Core.Path.{_≡_}
@@ -8,7 +8,7 @@ use lib.ListN.{length}
 use lib.IntN.{ℤ, pos, _-ℤ_}
 use lib.Ieee.{Float, nan, inf}
 use Rattle.base.specs.Bytes.{Bytes, ascii}
-use Rattle.cascade.specs.Number.{isE, isDigit, lowerCase, spelt, withSign, Decimal}
+use Rattle.cascade.specs.Number.{isE, isDigit, lowerCase, spelt, withSign, inI64, Decimal}
 
 unfoldable pub allDigits : Bytes → Bool
 allDigits [] = true
@@ -59,3 +59,15 @@ pub data Word : Bytes → Float → Type 0 where
   infinite : (s t : Bytes) (m : Bool) → Sign s m → map lowerCase t ≡ ascii "inf" → Word (s ++ t) (inf m)
   infinity : (s t : Bytes) (m : Bool) → Sign s m → map lowerCase t ≡ ascii "infinity" → Word (s ++ t) (inf m)
   notNumber : (s t : Bytes) (m : Bool) → Sign s m → map lowerCase t ≡ ascii "nan" → Word (s ++ t) nan
+
+-- the text v is the i64 i: an optional sign and at least one digit, in range
+pub record SpellsInteger (v : Bytes) (i : ℤ) : Type 0 where
+  pub sign : Bytes
+  pub minus : Bool
+  pub first : ℕ
+  pub others : Bytes
+  pub text : v ≡ sign ++ (first ∷ others)
+  pub signed : Sign sign minus
+  pub digits : allDigits (first ∷ others) ≡ true
+  pub value : i ≡ withSign minus (spelt (first ∷ others))
+  pub inRange : inI64 i ≡ true

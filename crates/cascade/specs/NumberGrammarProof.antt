@@ -1,4 +1,4 @@
--- A tag number is read from exactly the texts of the grammar.
+-- Tag numbers and `layer` tags are read from exactly the texts of the grammar.
 use Prim.Native.Nat.{ℕ, _≤_, _<_}
 use native.Mathlib.Omega.{arith}
 use mathlib.Core.Path.{_≡_, refl, sym, _∙_, ap, ap₂, subst}
@@ -15,8 +15,8 @@ use Rattle.base.specs.Bytes.{Bytes, ascii, same}
 use Rattle.base.specs.Choice.{by-test, clash, and-left, and-right, or-left, or-right}
 use Rattle.base.proofs.Compare.{same-refl, same-true}
 use Rattle.cascade.specs.MapLaws.{by-option}
-use Rattle.cascade.specs.Number.{isMinus, isPlus, isDot, isE, isDigit, lowerCase, negative, unsigned, digits, afterDigits, spelt, wholeNumber, withSign, signedNumber, Decimal, decimals, afterDecimals, exponentOf, decimalFrom, decimalOf, TagNumber, reads, malformed, outOfRange, scaled, valueOf, unsignedNumber, tagNumber}
-use Rattle.cascade.specs.NumberGrammar.{allDigits, Sign, absent, plus, minus, Fraction, dot, Exponent, written, Spells, Word, infinite, infinity, notNumber}
+use Rattle.cascade.specs.Number.{isMinus, isPlus, isDot, isE, isDigit, lowerCase, negative, unsigned, digits, afterDigits, spelt, wholeNumber, withSign, signedNumber, inI64, ranged, asInteger, Decimal, decimals, afterDecimals, exponentOf, decimalFrom, decimalOf, TagNumber, reads, malformed, outOfRange, scaled, valueOf, unsignedNumber, tagNumber}
+use Rattle.cascade.specs.NumberGrammar.{allDigits, Sign, absent, plus, minus, Fraction, dot, Exponent, written, Spells, Word, infinite, infinity, notNumber, SpellsInteger}
 
 none-some : {A B : Type 0} (x : A) → none ≡ some x → B
 none-some x p = let z : _≡_ {A = ℕ} 0 1 = cc in absurd (omega arith)
@@ -231,12 +231,25 @@ no-word t w ws s h =
     let l = s .4 in
     rw (s .2, lt-leb 65 (s .0) (omega arith), ne-eqb (s .0) w (λ z. omega arith))
 
+plain-spelt : (v : Bytes) (n : Decimal) (s : Spells v n) → Starts (s .whole ++ (s .fraction ++ s .exponent))
+plain-spelt v n s = starts (s .whole) (s .fraction) (s .decimals) (s .exponent) (s .digits) (s .fractional) (s .some)
+
+decimal-of : (v : Bytes) (n : Decimal) → Spells v n → decimalOf (negative v) (unsigned v) ≡ some n
+decimal-of v n s =
+    let t = s .whole ++ (s .fraction ++ s .exponent) in
+    let g = sign-read (s .sign) t (n .minus) (s .signed) (plain-start t (plain-spelt v n s)) in
+    rw (s .text, g .0, g .1) (decimal-read v n s)
+
+-- a text spells one decimal at most
+pub spelt-one : (v : Bytes) (n m : Decimal) → Spells v n → Spells v m → n ≡ m
+spelt-one v n m s t = let a = decimal-of v n s in let b = decimal-of v m t in cc
+
 -- a text that spells a decimal is read as that decimal
 pub spelt-reads : (v : Bytes) (n : Decimal) → Spells v n → tagNumber v ≡ valueOf (some n)
 unfolding tagNumber unsignedNumber
 spelt-reads v n s =
     let t = s .whole ++ (s .fraction ++ s .exponent) in
-    let a = starts (s .whole) (s .fraction) (s .decimals) (s .exponent) (s .digits) (s .fractional) (s .some) in
+    let a = plain-spelt v n s in
     let g = sign-read (s .sign) t (n .minus) (s .signed) (plain-start t a) in
     ap tagNumber (s .text)
     ∙ (rw (
@@ -330,3 +343,45 @@ numbers-only v =
         → ((n : Decimal) × Spells v n) ⊎ (((x : Float) × Word v x) ⊎ (tagNumber v ≡ malformed))
     go none d p q r = inr (inr (rw (p, q, r, d)))
     go (some n) d p q r = inl (n, decimal-spelt v n d)
+
+-- ---- the tag `layer`
+
+pub integer-exactly : (v : Bytes) (i : ℤ) → (asInteger v ≡ some i) ↔ SpellsInteger v i
+unfolding asInteger ranged Plain allDigits
+integer-exactly v i = (there, back)
+  where
+    kept : (j : ℤ) → ranged (some j) ≡ some i → (j ≡ i) × (inI64 i ≡ true)
+    kept j p =
+        by-test (inI64 j)
+        (λ h. let q = rw h at p in let e : j ≡ i = cc in (e, (rw (← e) h)))
+        (λ h. none-some i (rw h at p))
+
+    found : (o : Option ℕ) → wholeNumber (unsigned v) ≡ o → asInteger v ≡ some i → SpellsInteger v i
+    found none q p = none-some i (rw q at p)
+    found (some n) q p =
+        let g = sign-spelt v in
+        let w = whole-spelt (unsigned v) n q in
+        let k = kept (withSign (negative v) n) (rw q at p) in
+        record
+        {
+          sign = g .0;
+          minus = negative v;
+          first = w .0;
+          others = w .1;
+          text = g .2 ∙ ap (λ y. (g .0) ++ y) (w .2);
+          signed = g .1;
+          digits = w .3;
+          value = sym (k .0) ∙ ap (withSign (negative v)) (w .4);
+          inRange = k .1;
+        }
+
+    there : asInteger v ≡ some i → SpellsInteger v i
+    there p = found (wholeNumber (unsigned v)) refl p
+
+    back : SpellsInteger v i → asInteger v ≡ some i
+    back s =
+        let l = digit-low (s .first) (and-left (isDigit (s .first)) (allDigits (s .others)) (s .digits)) in
+        let g =
+            sign-read (s .sign) (s .first ∷ s .others) (s .minus) (s .signed)
+            (ne-eqb (s .first) 45 (λ z. omega arith), ne-eqb (s .first) 43 (λ z. omega arith)) in
+        rw (s .text, g .0, g .1, whole-read (s .first) (s .others) (s .digits), ← s .value, s .inRange)
