@@ -36,3 +36,4 @@ pub mod Numbered
 pub mod Examples
 pub mod WrongTurns
 pub mod IsolationExamples
+pub mod StyleExamples
