@@ -1,7 +1,7 @@
 -- The cascade over the matched selectors: step by step as the engine runs it, and by its meaning, layer by layer.
 use mathlib.Core.Bool.{Bool, _||_, cond}
-use mathlib.Core.List.{List, [], _∷_, _++_, foldl, map, flatMap}
-use mathlib.Core.Option.{Option, none, some, Option·getD}
+use mathlib.Core.List.{List, [], _∷_, _++_, map, flatMap}
+use mathlib.Core.Option.{Option·getD}
 use Rattle.base.specs.Bytes.{Bytes, same}
 use Rattle.base.specs.Map.{Entry, Map, entry, keyOf, lookup, member}
 use Rattle.cascade.specs.Map.{overlay, firsts, keep}

@@ -1,15 +1,15 @@
 -- The cascade step by step is the declared one, and a layer depends only on what reaches it.
-use mathlib.Core.Path.{_≡_, refl, sym, _∙_, ap, ap₂, subst}
-use mathlib.Core.Bool.{Bool, true, false, _&&_, _||_, cond, or-false, or-assoc}
+use mathlib.Core.Path.{_≡_, refl, sym, _∙_, ap}
+use mathlib.Core.Bool.{false, cond}
 use mathlib.Core.List.{List, [], _∷_, _++_, foldl, foldl-append, map, append-assoc, append-nil, map-map, map-append, flatMap}
-use mathlib.Core.Option.{Option, none, some, Option·getD}
+use mathlib.Core.Option.{none, some, Option·getD}
 use Rattle.base.specs.Bytes.{Bytes, same}
-use Rattle.base.specs.Choice.{by-test, clash, or-left, or-right}
-use Rattle.base.specs.Map.{Entry, Map, entry, keyOf, lookup, member}
-use Rattle.cascade.specs.Map.{insert, overlay, add, firsts, keep}
-use Rattle.cascade.specs.MapLaws.{lookup-tabulate, member-firsts, keep-append}
+use Rattle.base.specs.Choice.{by-test, or-left, or-right}
+use Rattle.base.specs.Map.{Map, entry, keyOf, lookup, member}
+use Rattle.cascade.specs.Map.{insert, overlay, add, keep}
+use Rattle.cascade.specs.MapLaws.{lookup-tabulate, member-firsts}
 use Rattle.cascade.specs.Clause.{star}
-use Rattle.cascade.specs.Cascade.{Hit, Layers, layerOf, reaches, receive, ensure, touch, step, named, assignments, assigned, declared}
+use Rattle.cascade.specs.Cascade.{Hit, Layers, layerOf, reaches, receive, ensure, step, named, assignments, assigned, declared}
 
 pub keys-declared : {B : Type 0} (g : Bytes → B) (ks : List Bytes) → map keyOf (map (λ k. entry k (g k)) ks) ≡ ks
 keys-declared g [] = refl

@@ -1,6 +1,6 @@
 -- A sheet in the order of the walk: each selector with its rule's properties, rule by rule.
 use mathlib.Core.List.{List, [], _∷_, _++_, map}
-use mathlib.Core.Option.{Option, Option·getD}
+use mathlib.Core.Option.{Option·getD}
 use Rattle.base.specs.Bytes.{Bytes, ascii}
 use Rattle.base.specs.Map.{Entry}
 use Rattle.sheet.specs.Sheet.{Selector, Rule}

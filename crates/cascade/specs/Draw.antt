@@ -3,13 +3,13 @@ use Prim.Native.Nat.{ℕ, suc, _+_}
 use mathlib.Core.Path.{_≡_}
 use mathlib.Core.Bool.{Bool, true, false, _&&_, _||_, not, cond}
 use mathlib.Core.List.{List, [], _∷_, _++_, map}
-use mathlib.Core.Option.{Option, none, some, Option·getD}
+use mathlib.Core.Option.{Option·getD}
 use lib.Dec.{leb}
 use lib.ListN.{length}
 use lib.IntN.{ℤ, pos}
 use lib.Ieee.{Float, isNan}
 use Rattle.base.specs.Bytes.{Bytes}
-use Rattle.base.specs.Map.{Entry, Map}
+use Rattle.base.specs.Map.{Map}
 use Rattle.base.specs.Entity.{Entity}
 use Rattle.base.specs.Refusal.{ofEntity}
 use Rattle.base.specs.declared.refusal.Refusal.{Refusal}

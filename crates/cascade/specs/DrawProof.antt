@@ -1,31 +1,30 @@
 -- The drawing list is a permutation of the entries, sorted and stable; the Rust's merge of two sorted lists gives it; no NaN comes to be sorted.
-use Prim.Native.Nat.{ℕ, suc, _≤_, _<_, _+_, _*_, compare, Ordering, Ordering·lt, Ordering·eq, Ordering·gt}
+use Prim.Native.Nat.{ℕ, suc, _+_, _*_, compare, Ordering}
 use native.Mathlib.Omega.{arith}
 use native.Mathlib.Nat.{add-comm}
 use mathlib.Core.Path.{_≡_, refl, sym, _∙_, ap, ap₂, subst}
 use mathlib.Core.Logic.{_↔_}
 use mathlib.Core.Bool.{Bool, true, false, _&&_, _||_, not, cond, Bool·beq, and-true, and-comm}
 use mathlib.Core.List.{List, [], _∷_, _++_, map, append-assoc}
-use mathlib.Core.Option.{Option, none, some}
 use lib.Dec.{T, eqb, leb, ltb, isLe}
 use lib.ListN.{length}
 use lib.IntN.{ℤ, pos, negsuc}
 use lib.Ieee.{Float, nan, inf, fin, below, level, lt, eq, up, down, isNan, ofInt, neg}
-use borrow.Author.Tests.{eqb-true, eqb-false, eq-eqb, ne-eqb, ltb-true, ltb-false, lt-ltb, le-ltb, leb-true, leb-false, le-leb, lt-leb, not-true}
+use borrow.Author.Tests.{eqb-true, eqb-false, eq-eqb, ne-eqb, ltb-true, ltb-false, leb-true, leb-false, le-leb, lt-leb, not-true}
 use Rattle.base.specs.Choice.{by-test, clash, or-left, or-right}
 use Rattle.base.specs.Map.{Entry, Map}
 use Rattle.base.specs.Entity.{Entity}
 use Rattle.base.specs.Refusal.{ofEntity}
 use Rattle.base.specs.declared.refusal.Refusal.{Refusal}
 use Rattle.sheet.specs.Sheet.{Rule, Value}
-use Rattle.cascade.specs.Map.{keep, All}
+use Rattle.cascade.specs.Map.{All}
 use Rattle.cascade.specs.Number.{whole}
 use Rattle.cascade.specs.Cascade.{Layers}
 use Rattle.cascade.specs.Walk.{Answer, refused, layers, propertyMaps}
 use Rattle.cascade.specs.Style.{Style, Settings, styles}
-use Rattle.cascade.specs.Order.{TotalPreorder, andThenBy, intLe, boolLe, floatLe}
+use Rattle.cascade.specs.Order.{TotalPreorder, intLe, boolLe, floatLe}
 use Rattle.cascade.specs.OrderLaws.{by-key, and-then, nat-order, int-order, bool-order, float-order, lt-asym}
-use Rattle.cascade.specs.Sort.{sort, merge, Sorted, tied, Permutation}
+use Rattle.cascade.specs.Sort.{sort, merge, tied}
 use Rattle.cascade.specs.SortLaws.{sort-permutes, sort-sorted, sort-stable, stable-one, merge-sort, all-sort, sort-alike, merge-alike}
 use Rattle.cascade.specs.Draw.{Drawn, Drawing, declined, entries, layerRank, fillRank, zRank, idRank, notAfter, someNan, entityDrawing, join, stream, styleEntities, styleAreas, Ordered, Declines}
 use Rattle.cascade.specs.RustDraw.{sameInt, compareInt, compareBool, compareFloat, fill, compareStyled, notGreater, rustEntities, rustAreas}

@@ -1,23 +1,19 @@
 -- Small sheets: the worked example of document 01, marked cases of matching, refusal 8, and the wrong turns, each shown false.
 use Prim.Native.Nat.{ℕ}
-use native.Mathlib.Omega.{arith}
-use mathlib.Core.Path.{_≡_, refl, sym, _∙_, ap}
-use mathlib.Core.Bool.{Bool, true, false}
+use mathlib.Core.Path.{_≡_, refl}
 use mathlib.Core.List.{List, [], _∷_, map}
 use mathlib.Core.Option.{Option, none, some}
-use lib.Ieee.{Float, lt, eq, le, ofInt, neg, mul, div}
+use lib.Ieee.{lt, eq, le, ofInt, neg, mul, div}
 use Rattle.base.specs.Bytes.{Bytes, ascii, same}
-use Rattle.base.specs.Map.{Entry, Map, entry, lookup, member}
+use Rattle.base.specs.Map.{Entry, entry, lookup, member}
 use Rattle.base.specs.Entity.{Entity}
-use Rattle.sheet.specs.Sheet.{ObjectType, node, way, area, UnaryTest, exists, notExists, isTrue, isFalse, TextTest, equal, notEqual, NumericTest, greaterOrEqual, Test, unary, text, numeric, Selector, Rule}
-use Rattle.cascade.specs.Map.{insert, keep}
+use Rattle.sheet.specs.Sheet.{way, exists, notExists, isFalse, equal, notEqual, greaterOrEqual, Test, unary, text, numeric, Selector, Rule}
+use Rattle.cascade.specs.Map.{insert}
 use Rattle.cascade.specs.Clause.{clauses}
 use Rattle.cascade.specs.Number.{negative, unsigned, digits, afterDigits, spelt, wholeNumber, decimals, afterDecimals, exponentOf, decimalFrom, whole, scaled, valueOf, unsignedNumber, tagNumber}
 use Rattle.cascade.specs.Match.{Verdict, pass, fail, out, present, trueValue, unaryHolds, equals, textHolds, compares, numberVerdict, numericVerdict, testVerdict, testsVerdict, fitsType, applies, verdict}
-use Rattle.cascade.specs.Cascade.{Layers, reaches, receive, ensure, step}
-use Rattle.cascade.specs.Walk.{Answer, refused, layers, crowded, walk, propertyMaps}
-use Rattle.cascade.specs.Meaning.{Meaning}
-use Rattle.cascade.specs.MeaningProof.{demand-2, meaning-one}
+use Rattle.cascade.specs.Cascade.{reaches, receive, ensure, step}
+use Rattle.cascade.specs.Walk.{layers, crowded, walk, propertyMaps}
 
 -- a rule with one selector, of ways
 abbrev pub wayRule : {A : Type 0} → Option Bytes → List Test → List (Entry A) → Rule A

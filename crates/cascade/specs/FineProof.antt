@@ -1,14 +1,14 @@
 -- The walk that checks the bounds as it meets them answers what the plain walk answers, refusals included.
-use Prim.Native.Nat.{ℕ, suc, _≤_, _<_}
+use Prim.Native.Nat.{ℕ, _≤_}
 use native.Mathlib.Omega.{arith}
-use mathlib.Core.Path.{_≡_, refl, sym, _∙_, ap}
-use mathlib.Core.Bool.{Bool, true, false, _||_, cond, or-true}
+use mathlib.Core.Path.{_≡_, refl}
+use mathlib.Core.Bool.{true, false, cond, or-true}
 use mathlib.Core.List.{List, [], _∷_, _++_, map}
-use mathlib.Core.Option.{Option, none, some, Option·getD}
-use lib.Dec.{T, ltb, ltb→lt, lt→ltb}
+use mathlib.Core.Option.{Option·getD}
+use lib.Dec.{ltb, ltb→lt, lt→ltb}
 use lib.ListN.{length, length-map}
 use Rattle.base.specs.Bytes.{Bytes, same}
-use Rattle.base.specs.Choice.{by-test, clash, holds, or-left, or-right}
+use Rattle.base.specs.Choice.{by-test, holds, or-left, or-right}
 use Rattle.base.specs.Map.{Entry, Map, entry, keyOf, lookup, member}
 use Rattle.base.specs.Entity.{Entity}
 use Rattle.sheet.specs.Sheet.{Rule}
@@ -17,7 +17,7 @@ use Rattle.cascade.specs.Clause.{star, Clause, clauses}
 use Rattle.cascade.specs.Match.{verdict}
 use Rattle.cascade.specs.MatchLaws.{by-verdict}
 use Rattle.cascade.specs.Cascade.{Hit, Layers, reaches, receive, ensure, touch, step}
-use Rattle.cascade.specs.Walk.{Answer, refused, layers, toHit, crowded, admit, react, continue, walk, propertyMaps}
+use Rattle.cascade.specs.Walk.{refused, layers, toHit, crowded, admit, continue, walk, propertyMaps}
 use Rattle.cascade.specs.Fine.{hit, fill, fineStep, fineWalk, finePropertyMaps}
 
 long-grows : (m n : ℕ) → m ≤ n → ltb 128 m ≡ true → ltb 128 n ≡ true

@@ -1,24 +1,23 @@
 -- Demand 3 is not vacuous: two different sheets and entities that meet it, and for each hypothesis left out a case that shows it is needed.
 use Prim.Native.Nat.{ℕ}
 use native.Mathlib.Omega.{arith}
-use mathlib.Core.Path.{_≡_, refl, sym, _∙_, ap}
-use mathlib.Core.Bool.{Bool, true, false}
+use mathlib.Core.Path.{_≡_, refl, ap}
+use mathlib.Core.Bool.{false}
 use mathlib.Core.List.{List, [], _∷_, map, flatMap, List·Memᴰ, List·Memᴰ·head, List·Memᴰ·tail, List·Memᴰ·not-nil}
 use mathlib.Core.Option.{Option, none, some, Option·getD}
 use lib.ListN.{length}
-use lib.IntN.{ℤ, pos, negsuc}
-use lib.Ieee.{Float, fin, add, mul, ofInt}
+use lib.Ieee.{Float, add, mul, ofInt}
 use Rattle.base.specs.Bytes.{Bytes, ascii, same}
 use Rattle.base.specs.Map.{Entry, Map, entry, lookup, member}
 use Rattle.base.specs.Entity.{Entity}
-use Rattle.sheet.specs.Sheet.{ObjectType, way, area, UnaryTest, exists, Test, unary, Selector, Rule, Value, identifier, numbers, widthDelta}
+use Rattle.sheet.specs.Sheet.{area, exists, Test, unary, Rule, Value, identifier, numbers}
 use Rattle.cascade.specs.Map.{insert, keep, andMap, orElse}
 use Rattle.cascade.specs.Clause.{star, defaultName, layerName, clauses}
 use Rattle.cascade.specs.Number.{negative, unsigned, afterDigits, spelt, wholeNumber, ranged, asInteger, whole}
 use Rattle.cascade.specs.Match.{tag, present, unaryHolds, testVerdict, testsVerdict, fitsType, applies, verdict}
 use Rattle.cascade.specs.Cascade.{Layers, reaches, receive, ensure, step}
-use Rattle.cascade.specs.Walk.{Answer, layers, crowded, walk, propertyMaps}
-use Rattle.cascade.specs.Style.{Style, Settings, josm, mapsMe, casingMultiplier, asColor, asNumber, asIdentifier, asText, asDashes, asDelta, isBackground, defaultZ, layerTag, widthOf, widthOrZero, baseWidth, casingOnly, fullCasing, styleFrom, styles}
+use Rattle.cascade.specs.Walk.{layers, crowded, walk, propertyMaps}
+use Rattle.cascade.specs.Style.{Settings, josm, casingMultiplier, asNumber, asDelta, layerTag, widthOf, widthOrZero, baseWidth, casingOnly, fullCasing, styleFrom, styles}
 use Rattle.cascade.specs.Isolation.{hasOne, strike, testedKeys, Agree, SameReach, SameStyle}
 use Rattle.cascade.specs.IsolationProof.{isolated, style-isolated}
 use Rattle.cascade.specs.Examples.{wayRule}

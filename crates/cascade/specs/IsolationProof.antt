@@ -1,26 +1,26 @@
 -- Demand 3 holds: to strike selectors is to strike what they match, and a layer depends on what reaches it alone.
 use Prim.Native.Nat.{ℕ}
-use mathlib.Core.Path.{_≡_, refl, sym, _∙_, ap, ap₂}
-use mathlib.Core.Bool.{Bool, true, false, _||_, cond}
-use mathlib.Core.List.{List, [], _∷_, _++_, map, map-append, flatMap, append-assoc, List·Memᴰ, Memᴰ·append-left, Memᴰ·append-right}
+use mathlib.Core.Path.{_≡_, refl, sym, _∙_, ap}
+use mathlib.Core.Bool.{Bool, cond}
+use mathlib.Core.List.{List, [], _∷_, _++_, map, flatMap, append-assoc, List·Memᴰ, Memᴰ·append-left, Memᴰ·append-right}
 use mathlib.Core.Option.{Option, none, some}
-use Rattle.base.specs.Bytes.{Bytes, same}
+use Rattle.base.specs.Bytes.{Bytes}
 use Rattle.base.specs.Choice.{by-test}
 use Rattle.base.specs.Map.{Entry, Map, lookup, member}
 use Rattle.base.specs.Entity.{Entity}
 use Rattle.sheet.specs.Sheet.{Selector, Rule, Value}
 use Rattle.cascade.specs.Map.{overlay, keep, mapOption}
 use Rattle.cascade.specs.MapLaws.{by-option, keep-append, keep-map, keep-comm}
-use Rattle.cascade.specs.Clause.{star, defaultName, layerName, Clause, clause, clauses}
+use Rattle.cascade.specs.Clause.{defaultName, Clause, clause, clauses}
 use Rattle.cascade.specs.Match.{tag, testKey, verdict}
 use Rattle.cascade.specs.MatchLaws.{verdict-agree}
-use Rattle.cascade.specs.Cascade.{Hit, Layers, layerOf, reaches, assignments, assigned}
+use Rattle.cascade.specs.Cascade.{Hit, Layers, layerOf, reaches, assignments}
 use Rattle.cascade.specs.CascadeLaws.{layer-declared, named-kept}
 use Rattle.cascade.specs.Walk.{layers, isPass, toHit, propertyMaps, matched, hits}
 use Rattle.cascade.specs.WalkLaws.{maps-declared}
-use Rattle.cascade.specs.Style.{Settings, layerTag, styleOf, styles}
+use Rattle.cascade.specs.Style.{styleOf}
 use Rattle.cascade.specs.StyleLaws.{style-is, base-alike}
-use Rattle.cascade.specs.Isolation.{ofLayer, strikeSelectors, hasOne, strike, testedKeys, Agree, SameReach, Isolated, SameStyle, StyleIsolated}
+use Rattle.cascade.specs.Isolation.{ofLayer, strikeSelectors, hasOne, strike, testedKeys, Agree, Isolated, StyleIsolated}
 
 abbrev clauseIn : {A : Type 0} → Bytes → Clause A → Bool
 clauseIn k c = ofLayer k (c .selector)

@@ -1,7 +1,7 @@
 -- Laws of ordered maps: lookups, names, kept parts and changed values.
-use mathlib.Core.Path.{_≡_, refl, sym, _∙_, ap, ap₂, subst}
-use mathlib.Core.Bool.{Bool, true, false, _&&_, _||_, not, cond, or-false, or-assoc}
-use mathlib.Core.List.{List, [], _∷_, _++_, foldl, foldl-append, map, List·Memᴰ, List·Memᴰ·head, List·Memᴰ·tail}
+use mathlib.Core.Path.{_≡_, refl, sym, _∙_, ap, ap₂}
+use mathlib.Core.Bool.{Bool, true, false, _||_, cond, or-false, or-assoc}
+use mathlib.Core.List.{List, [], _∷_, _++_, foldl-append, map, List·Memᴰ, List·Memᴰ·head, List·Memᴰ·tail}
 use mathlib.Core.Option.{Option, none, some}
 use Rattle.base.specs.Bytes.{Bytes, same}
 use Rattle.base.specs.Choice.{by-test, clash, or-left, or-right}

@@ -1,17 +1,16 @@
 -- A verdict depends on the kind and the tested tags alone; it is 8 exactly if a reached test meets a tag number out of range.
 use Prim.Native.Nat.{ℕ}
 use native.Mathlib.Omega.{arith}
-use mathlib.Core.Path.{_≡_, refl, sym, _∙_, ap}
-use mathlib.Core.Bool.{Bool, true, false, cond}
+use mathlib.Core.Path.{_≡_, refl, ap}
+use mathlib.Core.Bool.{Bool, true, false}
 use mathlib.Core.List.{List, [], _∷_, _++_, map, List·Memᴰ, List·Memᴰ·head, List·Memᴰ·tail}
 use mathlib.Core.Option.{Option, none, some}
-use lib.Ieee.{Float}
 use Rattle.base.specs.Bytes.{Bytes}
-use Rattle.base.specs.Choice.{by-test, clash}
+use Rattle.base.specs.Choice.{by-test}
 use Rattle.base.specs.Entity.{Entity}
-use Rattle.sheet.specs.Sheet.{UnaryTest, TextTest, NumericTest, Test, unary, text, numeric, Selector}
+use Rattle.sheet.specs.Sheet.{Test, unary, text, numeric, Selector}
 use Rattle.cascade.specs.Number.{TagNumber, reads, malformed, outOfRange, tagNumber}
-use Rattle.cascade.specs.Match.{tag, Verdict, pass, fail, out, ofBool, unaryHolds, textHolds, compares, numberVerdict, numericVerdict, testKey, testVerdict, verdictOn, applies, andThen, testsVerdict, verdict, Reached, Outside}
+use Rattle.cascade.specs.Match.{tag, Verdict, pass, fail, out, ofBool, unaryHolds, textHolds, compares, numberVerdict, numericVerdict, testKey, testVerdict, verdictOn, applies, testsVerdict, verdict, Reached, Outside}
 
 pub by-verdict {ℓ} : {A : Type ℓ} (v : Verdict) → (v ≡ pass → A) → (v ≡ fail → A) → (v ≡ out → A) → A
 by-verdict pass f g h = f refl

@@ -1,24 +1,23 @@
 -- Demand 2 holds, and leaves no choice: two lists of layers with the meaning of one sheet are equal.
 use Prim.Native.Nat.{ℕ}
-use native.Mathlib.Omega.{arith}
-use mathlib.Core.Path.{_≡_, refl, sym, _∙_, ap, ap₂}
-use mathlib.Core.Bool.{Bool, true, false, _||_, cond}
-use mathlib.Core.List.{List, [], _∷_, _++_, map, foldl, List·Memᴰ, List·Memᴰ·head, List·Memᴰ·tail}
+use mathlib.Core.Path.{_≡_, refl, sym, _∙_, ap}
+use mathlib.Core.Bool.{true, false}
+use mathlib.Core.List.{List, [], _∷_, _++_, map, List·Memᴰ, List·Memᴰ·head, List·Memᴰ·tail}
 use mathlib.Core.Option.{Option, none, some}
 use Rattle.base.specs.Bytes.{Bytes, same}
-use Rattle.base.specs.Choice.{by-test, clash, or-left, or-right}
+use Rattle.base.specs.Choice.{by-test, clash}
 use Rattle.base.specs.Map.{Entry, Map, entry, keyOf, lookup, member}
 use Rattle.base.specs.Entity.{Entity}
 use Rattle.base.proofs.Compare.{same-refl, same-true}
 use Rattle.sheet.specs.Sheet.{Rule}
-use Rattle.cascade.specs.Map.{overlay, firsts, lastOf, keep, Distinct, DistinctKeys}
+use Rattle.cascade.specs.Map.{overlay, lastOf, keep}
 use Rattle.cascade.specs.MapLaws.{by-option, lookup-overlay, keys-overlay, last-absent, last-at, distinct-firsts, map-ext}
 use Rattle.cascade.specs.Clause.{Clause, clauses, layerName}
-use Rattle.cascade.specs.Match.{Verdict, pass, fail, out, present, verdict}
+use Rattle.cascade.specs.Match.{pass, present, verdict}
 use Rattle.cascade.specs.MatchLaws.{by-verdict}
 use Rattle.cascade.specs.Cascade.{Hit, Layers, layerOf, named, assigned, declared}
 use Rattle.cascade.specs.CascadeLaws.{keys-declared, layer-declared}
-use Rattle.cascade.specs.Walk.{layers, toHit, propertyMaps, isPass, matched, hits}
+use Rattle.cascade.specs.Walk.{hits}
 use Rattle.cascade.specs.WalkLaws.{maps-declared}
 use Rattle.cascade.specs.Meaning.{Last, never, last, Named, Meaning, Demand2}
 

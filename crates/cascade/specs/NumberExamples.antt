@@ -1,13 +1,13 @@
 -- Tag numbers and `layer` tags, computed: what Rust reads, what it refuses, and where 8 begins.
-use Prim.Native.Nat.{ℕ, _^_, _-_}
+use Prim.Native.Nat.{_^_, _-_}
 use mathlib.Core.Path.{_≡_, refl}
 use mathlib.Core.List.{List, [], _∷_, map}
-use mathlib.Core.Option.{Option, none, some}
-use mathlib.Core.Bool.{Bool, true, false}
-use lib.IntN.{ℤ, pos, negsuc}
-use lib.Ieee.{Float, nan, inf, binary64, round, ofInt, neg, mul, div}
-use Rattle.base.specs.Bytes.{Bytes, ascii, same}
-use Rattle.cascade.specs.Number.{negative, unsigned, digits, afterDigits, spelt, wholeNumber, ranged, asInteger, decimals, afterDecimals, exponentOf, decimalFrom, TagNumber, reads, malformed, outOfRange, whole, scaled, valueOf, unsignedNumber, tagNumber}
+use mathlib.Core.Option.{none, some}
+use mathlib.Core.Bool.{true, false}
+use lib.IntN.{pos, negsuc}
+use lib.Ieee.{nan, inf, binary64, round, ofInt, neg, mul, div}
+use Rattle.base.specs.Bytes.{ascii, same}
+use Rattle.cascade.specs.Number.{negative, unsigned, digits, afterDigits, spelt, wholeNumber, ranged, asInteger, decimals, afterDecimals, exponentOf, decimalFrom, reads, malformed, outOfRange, whole, scaled, valueOf, unsignedNumber, tagNumber}
 
 abbrev pub Read : {A B : Type 0} → (A → B) → List (A × B) → Type 0
 Read f cs = map (λ c. f (c .0)) cs ≡ map (λ c. c .1) cs

@@ -1,21 +1,20 @@
 -- Tag numbers and `layer` tags are read from exactly the texts of the grammar.
-use Prim.Native.Nat.{ℕ, _≤_, _<_}
+use Prim.Native.Nat.{ℕ, _≤_}
 use native.Mathlib.Omega.{arith}
 use mathlib.Core.Path.{_≡_, refl, sym, _∙_, ap, ap₂, subst}
 use mathlib.Core.Logic.{_↔_, _⊎_, inl, inr}
-use mathlib.Core.Bool.{Bool, true, false, _&&_, _||_, cond, and-false}
+use mathlib.Core.Bool.{Bool, true, false, and-false}
 use mathlib.Core.List.{List, [], _∷_, _++_, map, append-nil}
 use mathlib.Core.Option.{Option, none, some}
 use lib.Dec.{eqb, leb}
 use lib.ListN.{length}
 use lib.IntN.{ℤ, pos, _-ℤ_}
 use lib.Ieee.{Float, nan, inf}
-use borrow.Author.Tests.{eqb-true, eqb-false, eq-eqb, ne-eqb, leb-true, leb-false, le-leb, lt-leb}
+use borrow.Author.Tests.{eqb-true, ne-eqb, leb-true, lt-leb}
 use Rattle.base.specs.Bytes.{Bytes, ascii, same}
-use Rattle.base.specs.Choice.{by-test, clash, and-left, and-right, or-left, or-right}
+use Rattle.base.specs.Choice.{by-test, and-left, and-right}
 use Rattle.base.proofs.Compare.{same-refl, same-true}
-use Rattle.cascade.specs.MapLaws.{by-option}
-use Rattle.cascade.specs.Number.{isMinus, isPlus, isDot, isE, isDigit, lowerCase, negative, unsigned, digits, afterDigits, spelt, wholeNumber, withSign, signedNumber, inI64, ranged, asInteger, Decimal, decimals, afterDecimals, exponentOf, decimalFrom, decimalOf, TagNumber, reads, malformed, outOfRange, scaled, valueOf, unsignedNumber, tagNumber}
+use Rattle.cascade.specs.Number.{isMinus, isPlus, isDot, isE, isDigit, lowerCase, negative, unsigned, digits, afterDigits, spelt, wholeNumber, withSign, signedNumber, inI64, ranged, asInteger, Decimal, decimals, afterDecimals, exponentOf, decimalFrom, decimalOf, reads, malformed, scaled, valueOf, unsignedNumber, tagNumber}
 use Rattle.cascade.specs.NumberGrammar.{allDigits, Sign, absent, plus, minus, Fraction, dot, Exponent, written, Spells, Word, infinite, infinity, notNumber, SpellsInteger}
 
 none-some : {A B : Type 0} (x : A) → none ≡ some x → B
@@ -58,7 +57,10 @@ whole-read d ds a =
     let e : afterDigits (d ∷ ds) ≡ [] = ap afterDigits (sym (append-nil (d ∷ ds))) ∙ i .1 in
     rw (e, same-refl [])
 
-whole-spelt : (s : Bytes) (n : ℕ) → wholeNumber s ≡ some n → (d : ℕ) × (ds : Bytes) × (s ≡ d ∷ ds) × (allDigits (d ∷ ds) ≡ true) × (n ≡ spelt (d ∷ ds))
+whole-spelt :
+    (s : Bytes) (n : ℕ)
+    → wholeNumber s ≡ some n
+    → (d : ℕ) × (ds : Bytes) × (s ≡ d ∷ ds) × (allDigits (d ∷ ds) ≡ true) × (n ≡ spelt (d ∷ ds))
 unfolding wholeNumber
 whole-spelt [] n p = none-some n p
 whole-spelt (d ∷ ds) n p =
@@ -266,8 +268,10 @@ plain-word : (t : Bytes) (w : ℕ) (ws : Bytes) → map lowerCase t ≡ w ∷ ws
 unfolding Plain
 plain-word [] w ws e h = tt
 plain-word (b ∷ t) w ws e h =
-    let q : lowerCase b ≡ w = cc in
-    (ne-eqb b 45 (λ z. let p : lowerCase 45 ≡ w = ap lowerCase (sym z) ∙ q in omega arith), ne-eqb b 43 (λ z. let p : lowerCase 43 ≡ w = ap lowerCase (sym z) ∙ q in omega arith))
+    let q : lowerCase b ≡ w = cc in (
+      ne-eqb b 45 (λ z. let p : lowerCase 45 ≡ w = ap lowerCase (sym z) ∙ q in omega arith),
+      ne-eqb b 43 (λ z. let p : lowerCase 43 ≡ w = ap lowerCase (sym z) ∙ q in omega arith),
+    )
 
 pub word-reads : (v : Bytes) (x : Float) → Word v x → tagNumber v ≡ reads x
 unfolding tagNumber unsignedNumber same
@@ -296,8 +300,7 @@ decimal-spelt v n p = go (exponentOf (afterDecimals (afterDigits (unsigned v))))
         let i = digits-all (unsigned v) in
         let f = fraction-spelt rest in
         let d = from-spelt (negative v) (digits (unsigned v)) (decimals rest) e n (rw q at p) in
-        record
-        {
+        record {
           sign = g .0;
           whole = digits (unsigned v);
           fraction = f .0;
@@ -319,13 +322,37 @@ pub numbers-only : (v : Bytes) → ((n : Decimal) × Spells v n) ⊎ (((x : Floa
 unfolding tagNumber unsignedNumber valueOf
 numbers-only v =
     by-test (same l (ascii "inf"))
-    (λ p. inr (inl (inf (negative v), subst (λ y. Word y (inf (negative v))) (sym (g .2)) (infinite (g .0) (unsigned v) (negative v) (g .1) (same-true l (ascii "inf") p)))))
+    (λ p.
+    inr
+    (inl (
+      inf (negative v),
+      subst
+          (λ y. Word y (inf (negative v)))
+          (sym (g .2))
+          (infinite (g .0) (unsigned v) (negative v) (g .1) (same-true l (ascii "inf") p)),
+    )))
     (λ p.
     by-test (same l (ascii "infinity"))
-    (λ q. inr (inl (inf (negative v), subst (λ y. Word y (inf (negative v))) (sym (g .2)) (infinity (g .0) (unsigned v) (negative v) (g .1) (same-true l (ascii "infinity") q)))))
+    (λ q.
+    inr
+    (inl (
+      inf (negative v),
+      subst
+          (λ y. Word y (inf (negative v)))
+          (sym (g .2))
+          (infinity (g .0) (unsigned v) (negative v) (g .1) (same-true l (ascii "infinity") q)),
+    )))
     (λ q.
     by-test (same l (ascii "nan"))
-    (λ r. inr (inl (nan, subst (λ y. Word y nan) (sym (g .2)) (notNumber (g .0) (unsigned v) (negative v) (g .1) (same-true l (ascii "nan") r)))))
+    (λ r.
+    inr
+    (inl (
+      nan,
+      subst
+          (λ y. Word y nan)
+          (sym (g .2))
+          (notNumber (g .0) (unsigned v) (negative v) (g .1) (same-true l (ascii "nan") r)),
+    )))
     (λ r. go (decimalOf (negative v) (unsigned v)) refl p q r)))
   where
     l : Bytes
@@ -362,8 +389,7 @@ integer-exactly v i = (there, back)
         let g = sign-spelt v in
         let w = whole-spelt (unsigned v) n q in
         let k = kept (withSign (negative v) n) (rw q at p) in
-        record
-        {
+        record {
           sign = g .0;
           minus = negative v;
           first = w .0;
@@ -382,6 +408,6 @@ integer-exactly v i = (there, back)
     back s =
         let l = digit-low (s .first) (and-left (isDigit (s .first)) (allDigits (s .others)) (s .digits)) in
         let g =
-            sign-read (s .sign) (s .first ∷ s .others) (s .minus) (s .signed)
-            (ne-eqb (s .first) 45 (λ z. omega arith), ne-eqb (s .first) 43 (λ z. omega arith)) in
+        sign-read (s .sign) (s .first ∷ s .others) (s .minus) (s .signed)
+        (ne-eqb (s .first) 45 (λ z. omega arith), ne-eqb (s .first) 43 (λ z. omega arith)) in
         rw (s .text, g .0, g .1, whole-read (s .first) (s .others) (s .digits), ← s .value, s .inRange)

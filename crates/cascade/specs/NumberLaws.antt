@@ -1,22 +1,20 @@
 -- In the exact case a tag number is the f64 nearest to the decimal's value, ties to even: both operands are exact and one operation rounds.
-use Prim.Native.Nat.{ℕ, zero, suc, _+_, _*_, _^_, _<_, _≤_}
+use Prim.Native.Nat.{ℕ, zero, suc, _*_, _^_, _<_, _≤_}
 use native.Mathlib.Nat.{mul-comm, mul-mul-mul-comm, mul-pos, mul-one, one-mul, zero-mul, one-le-pow, zero-lt-suc}
 use native.Mathlib.Omega.{arith}
 use mathlib.Core.Path.{_≡_, refl, sym, _∙_, ap, ap₂, subst}
 use mathlib.Core.Bool.{Bool, true, false, _&&_, not, cond}
-use mathlib.Core.List.{List, [], _∷_, replicate}
-use mathlib.Core.Option.{Option, none, some}
-use lib.Dec.{T, eqb, leb, ltb, eqb→eq, eqb·suc-zero, ltb→lt, leb→le, lit<}
-use borrow.Author.Tests.{eq-eqb, ne-eqb, lt-ltb, le-ltb, le-leb, lt-leb, eqb-true, eqb-false, ltb-true, leb-true, leb-false}
+use mathlib.Core.Option.{some}
+use lib.Dec.{T, eqb, leb, ltb, eqb→eq, eqb·suc-zero, lit<}
+use borrow.Author.Tests.{le-leb, eqb-true, eqb-false, ltb-true, leb-true}
 use lib.IntN.{ℤ, pos, negsuc}
 use lib.Ieee.{Float, nan, inf, fin, Format, binary64, up, down, round, ofInt, neg, mul, div, unlike}
 use lib.Ieee.Exact.{HasValue}
 use lib.Ieee.Back.{round-whole}
 use lib.Ieee.Fits.{up-pos, down-pos}
 use lib.Ieee.Scale.{round-same}
-use Rattle.base.specs.Bytes.{Bytes}
-use Rattle.base.specs.Choice.{by-test, clash, holds, and-left, and-right}
-use Rattle.cascade.specs.Number.{whole, signed, scaled, TagNumber, reads, malformed, outOfRange, Decimal, valueOf}
+use Rattle.base.specs.Choice.{by-test, and-left, and-right}
+use Rattle.cascade.specs.Number.{whole, signed, scaled, reads, outOfRange, Decimal, valueOf}
 
 pub unlike-plus : (s : Bool) → unlike s false ≡ s
 unlike-plus true = refl

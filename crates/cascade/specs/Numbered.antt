@@ -1,8 +1,8 @@
 -- Sheets whose properties are numbers into a table: the answer over the numbers, mapped, is the answer over the values.
 use Prim.Native.Nat.{ℕ}
-use mathlib.Core.Path.{_≡_, refl, sym, _∙_, ap}
-use mathlib.Core.Bool.{Bool, true, false, _||_, cond}
-use mathlib.Core.List.{List, [], _∷_, _++_, foldl, map, map-append, map-map}
+use mathlib.Core.Path.{_≡_, refl, _∙_, ap}
+use mathlib.Core.Bool.{cond}
+use mathlib.Core.List.{List, [], _∷_, foldl, map, map-append, map-map}
 use mathlib.Core.Option.{Option, none, some, Option·getD}
 use lib.Dec.{ltb}
 use lib.ListN.{length, length-map}
@@ -11,15 +11,15 @@ use Rattle.base.specs.Choice.{by-test}
 use Rattle.base.specs.Map.{Entry, Map, entry, keyOf, lookup, member}
 use Rattle.base.specs.Entity.{Entity}
 use Rattle.base.proofs.Compare.{same-true}
-use Rattle.sheet.specs.Sheet.{Selector, Rule}
+use Rattle.sheet.specs.Sheet.{Rule}
 use Rattle.cascade.specs.Map.{insert, overlay, mapOption, mapEntry}
-use Rattle.cascade.specs.MapLaws.{lookup-map, keys-map, insert-map, overlay-map}
-use Rattle.cascade.specs.Clause.{star, Clause, clause, clauses}
+use Rattle.cascade.specs.MapLaws.{lookup-map, keys-map, overlay-map}
+use Rattle.cascade.specs.Clause.{star, Clause, clauses}
 use Rattle.cascade.specs.Match.{verdict}
 use Rattle.cascade.specs.MatchLaws.{by-verdict}
 use Rattle.cascade.specs.Cascade.{Hit, Layers, reaches, receive, ensure, touch, step}
-use Rattle.cascade.specs.Walk.{Answer, refused, layers, toHit, crowded, admit, react, walk, propertyMaps}
-use Rattle.cascade.specs.Isolation.{strike, Agree, SameReach}
+use Rattle.cascade.specs.Walk.{Answer, refused, layers, toHit, crowded, admit, walk, propertyMaps}
+use Rattle.cascade.specs.Isolation.{strike, Agree}
 use Rattle.cascade.specs.IsolationProof.{isolated}
 
 module _ {A B : Type 0} (f : A → B) where

@@ -1,28 +1,27 @@
 -- The walk is refused with a number exactly if a selector gives cause for it and none before gives any.
-use Prim.Native.Nat.{ℕ, _<_, _≤_}
+use Prim.Native.Nat.{ℕ, _<_}
 use native.Mathlib.Omega.{arith}
 use mathlib.Core.Path.{_≡_, refl, sym, _∙_, ap, subst}
 use mathlib.Core.Logic.{_↔_, _⊎_, inl, inr}
-use mathlib.Core.Bool.{Bool, true, false, _||_, cond, or-true}
-use mathlib.Core.List.{List, [], _∷_, _++_, map, map-append, foldl, append-assoc, append-nil}
-use mathlib.Core.Option.{Option, none, some}
+use mathlib.Core.Bool.{true, false, or-true}
+use mathlib.Core.List.{List, [], _∷_, _++_, map, append-assoc, append-nil}
 use lib.Dec.{ltb}
 use lib.ListN.{length, length-map}
 use borrow.Author.Tests.{ltb-true, ltb-false, lt-ltb, le-ltb}
 use Rattle.base.specs.Bytes.{Bytes, same}
-use Rattle.base.specs.Choice.{by-test, clash, or-left, or-right}
-use Rattle.base.specs.Map.{Entry, Map, entry, keyOf, member}
+use Rattle.base.specs.Choice.{by-test, clash}
+use Rattle.base.specs.Map.{entry, keyOf, member}
 use Rattle.base.specs.Entity.{Entity}
 use Rattle.base.proofs.Compare.{same-refl, same-true}
 use Rattle.sheet.specs.Sheet.{Rule}
 use Rattle.cascade.specs.Map.{overlay, firsts, keep}
-use Rattle.cascade.specs.MapLaws.{keys-overlay, keep-append}
+use Rattle.cascade.specs.MapLaws.{keys-overlay}
 use Rattle.cascade.specs.Clause.{Clause, clauses}
-use Rattle.cascade.specs.Match.{Verdict, pass, fail, out, verdict}
+use Rattle.cascade.specs.Match.{pass, fail, verdict}
 use Rattle.cascade.specs.MatchLaws.{by-verdict, out-reached, reached-out}
-use Rattle.cascade.specs.Cascade.{Hit, Layers, layerOf, step, named, assigned, declared}
+use Rattle.cascade.specs.Cascade.{Hit, step, named, assigned, declared}
 use Rattle.cascade.specs.CascadeLaws.{step-declared, cascade-is, named-member}
-use Rattle.cascade.specs.Walk.{Answer, refused, layers, toHit, crowded, admit, react, continue, walk, propertyMaps, matched, hits}
+use Rattle.cascade.specs.Walk.{Answer, refused, layers, toHit, crowded, walk, propertyMaps, hits}
 use Rattle.cascade.specs.WalkLaws.{hits-append, refused-layers, walk-hits, walk-append, maps-declared}
 use Rattle.cascade.specs.Refusals.{ManyNames, Cause, outside, layer33, name129, Refuses}
 

@@ -1,22 +1,21 @@
 -- The Rust's cascade is the declared one.
 use Prim.Native.Nat.{ℕ}
 use mathlib.Core.Path.{_≡_, refl, sym, _∙_, ap}
-use mathlib.Core.Bool.{Bool, true, false, _||_, cond, or-true}
-use mathlib.Core.List.{List, [], _∷_, _++_, map, map-append, map-map, foldl, foldl-append}
-use mathlib.Core.Option.{Option, none, some, Option·getD}
+use mathlib.Core.Bool.{true, false, or-true}
+use mathlib.Core.List.{List, [], _∷_, map, map-append, map-map, foldl, foldl-append}
 use Rattle.base.specs.Bytes.{Bytes, same}
-use Rattle.base.specs.Choice.{by-test, clash, or-left, or-right}
-use Rattle.base.specs.Map.{Entry, Map, entry, keyOf, lookup, member}
+use Rattle.base.specs.Choice.{by-test, or-left, or-right}
+use Rattle.base.specs.Map.{Entry, keyOf, member}
 use Rattle.base.specs.Entity.{Entity}
-use Rattle.base.proofs.Compare.{same-refl, same-true, same-sym}
+use Rattle.base.proofs.Compare.{same-true, same-sym}
 use Rattle.sheet.specs.Sheet.{Selector, Rule}
-use Rattle.cascade.specs.Map.{overlay, keep, DistinctKeys}
-use Rattle.cascade.specs.MapLaws.{distinct-snoc, keep-append}
-use Rattle.cascade.specs.Clause.{star, layerName, Clause, clause, clauses}
+use Rattle.cascade.specs.Map.{keep, DistinctKeys}
+use Rattle.cascade.specs.MapLaws.{distinct-snoc}
+use Rattle.cascade.specs.Clause.{star, layerName, clause, clauses}
 use Rattle.cascade.specs.Match.{verdict}
-use Rattle.cascade.specs.Cascade.{Hit, Layers, reaches, receive, ensure, touch, step, declared}
+use Rattle.cascade.specs.Cascade.{Hit, Layers, reaches, receive, ensure, touch, step}
 use Rattle.cascade.specs.CascadeLaws.{cascade-is}
-use Rattle.cascade.specs.Walk.{layers, isPass, matched, toHit, propertyMaps, hits}
+use Rattle.cascade.specs.Walk.{layers, isPass, propertyMaps, hits}
 use Rattle.cascade.specs.WalkLaws.{maps-declared, hits-append}
 use Rattle.cascade.specs.Rust.{addLayer, updateEntry, updateLayer, updateOther, rustStep, styleRule, styleArea}
 

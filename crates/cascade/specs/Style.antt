@@ -1,6 +1,6 @@
 -- From a layer's property map to its style: property_map_to_style, and which layers get one.
 use Prim.Native.Nat.{ℕ}
-use mathlib.Core.Bool.{Bool, true, false, _||_, not, cond}
+use mathlib.Core.Bool.{Bool, false, not, cond}
 use mathlib.Core.List.{List, [], _∷_, map}
 use mathlib.Core.Option.{Option, none, some, Option·getD}
 use lib.Dec.{eqb}
@@ -10,7 +10,7 @@ use Rattle.base.specs.Bytes.{Bytes, ascii, same}
 use Rattle.base.specs.Map.{Entry, Map, entry, lookup}
 use Rattle.base.specs.Entity.{Entity}
 use Rattle.sheet.specs.Sheet.{Value, identifier, string, color, numbers, widthDelta, Color}
-use Rattle.cascade.specs.Map.{keep, mapOption, andMap, orElse, mapEntry}
+use Rattle.cascade.specs.Map.{keep, andMap, orElse, mapEntry}
 use Rattle.cascade.specs.Number.{asInteger, whole}
 use Rattle.cascade.specs.Clause.{star, defaultName}
 use Rattle.cascade.specs.Match.{tag}

@@ -1,16 +1,15 @@
 -- The style of a layer is that of its map over the default layer, whatever other layers there are.
-use mathlib.Core.Path.{_≡_, refl, sym, _∙_, ap}
-use mathlib.Core.Bool.{true, false, not, cond}
-use mathlib.Core.List.{List, [], _∷_, map}
-use mathlib.Core.Option.{Option, none, some}
-use lib.Ieee.{Float}
+use mathlib.Core.Path.{_≡_, refl}
+use mathlib.Core.Bool.{false}
+use mathlib.Core.List.{[], _∷_}
+use mathlib.Core.Option.{Option, none}
 use Rattle.base.specs.Bytes.{Bytes, same}
 use Rattle.base.specs.Choice.{by-test}
-use Rattle.base.specs.Map.{Entry, Map, lookup}
+use Rattle.base.specs.Map.{Map, lookup}
 use Rattle.base.specs.Entity.{Entity}
 use Rattle.base.proofs.Compare.{same-refl, same-true}
 use Rattle.sheet.specs.Sheet.{Value}
-use Rattle.cascade.specs.Map.{keep, mapOption, mapEntry}
+use Rattle.cascade.specs.Map.{keep, mapOption}
 use Rattle.cascade.specs.MapLaws.{by-option, lookup-map}
 use Rattle.cascade.specs.Clause.{star, defaultName}
 use Rattle.cascade.specs.Cascade.{Layers}

@@ -1,9 +1,9 @@
 -- Where the walk refuses nothing its layers are those that the matched selectors declare.
 use Prim.Native.Nat.{ℕ, _≤_}
 use native.Mathlib.Omega.{arith}
-use mathlib.Core.Path.{_≡_, refl, sym, _∙_, ap}
-use mathlib.Core.Bool.{Bool, true, false, cond}
-use mathlib.Core.List.{List, [], _∷_, _++_, map, map-append, foldl}
+use mathlib.Core.Path.{_≡_, refl, _∙_}
+use mathlib.Core.Bool.{false}
+use mathlib.Core.List.{List, [], _∷_, _++_, map-append, foldl}
 use lib.Dec.{ltb}
 use lib.ListN.{length}
 use borrow.Author.Tests.{ltb-false}
@@ -13,11 +13,11 @@ use Rattle.sheet.specs.Sheet.{Rule}
 use Rattle.cascade.specs.Map.{keep}
 use Rattle.cascade.specs.MapLaws.{keep-append}
 use Rattle.cascade.specs.Clause.{Clause, clauses}
-use Rattle.cascade.specs.Match.{Verdict, pass, fail, out, applies, verdict}
+use Rattle.cascade.specs.Match.{applies, verdict}
 use Rattle.cascade.specs.MatchLaws.{by-verdict, verdict-unfit}
 use Rattle.cascade.specs.Cascade.{Layers, step, declared}
 use Rattle.cascade.specs.CascadeLaws.{cascade-is}
-use Rattle.cascade.specs.Walk.{Answer, refused, layers, toHit, crowded, admit, react, continue, walk, propertyMaps, matched, hits}
+use Rattle.cascade.specs.Walk.{Answer, refused, layers, toHit, crowded, admit, continue, walk, propertyMaps, matched, hits}
 
 module _ {A : Type 0} where
   continue-admit : (m : Layers A) (a : Answer A) (f : Layers A → Answer A) → continue (admit m a) f ≡ admit m (continue a f)

@@ -1,18 +1,17 @@
 -- Document 01's wrong turns, each on a small sheet: what such an engine would answer is not the meaning of the sheet.
 use Prim.Native.Nat.{ℕ}
 use native.Mathlib.Omega.{arith}
-use mathlib.Core.Path.{_≡_, refl, sym, _∙_, ap}
-use mathlib.Core.Bool.{Bool, true, false}
+use mathlib.Core.Path.{_≡_, refl, ap}
 use mathlib.Core.List.{List, [], _∷_, map}
 use mathlib.Core.Option.{Option, none, some, Option·getD}
 use Rattle.base.specs.Bytes.{Bytes, ascii, same}
-use Rattle.base.specs.Map.{Entry, Map, entry, lookup, member}
+use Rattle.base.specs.Map.{Entry, entry, lookup, member}
 use Rattle.sheet.specs.Sheet.{Rule}
 use Rattle.cascade.specs.Map.{insert}
 use Rattle.cascade.specs.Clause.{clauses}
 use Rattle.cascade.specs.Match.{fitsType, applies, testsVerdict, verdict}
 use Rattle.cascade.specs.Cascade.{Layers, reaches, receive, ensure, step}
-use Rattle.cascade.specs.Walk.{Answer, layers, crowded, walk, propertyMaps}
+use Rattle.cascade.specs.Walk.{layers, crowded, walk, propertyMaps}
 use Rattle.cascade.specs.Meaning.{Meaning}
 use Rattle.cascade.specs.MeaningProof.{demand-2, meaning-one}
 use Rattle.cascade.specs.Examples.{wayRule, openWay}
