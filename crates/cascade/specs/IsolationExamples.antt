@@ -2,12 +2,13 @@
 use Prim.Native.Nat.{ℕ}
 use native.Mathlib.Omega.{arith}
 use mathlib.Core.Path.{_≡_, refl, ap}
-use mathlib.Core.Bool.{false}
+use mathlib.Core.Bool.{Bool, true, false}
 use mathlib.Core.List.{List, [], _∷_, map, flatMap, List·Memᴰ, List·Memᴰ·head, List·Memᴰ·tail, List·Memᴰ·not-nil}
 use mathlib.Core.Option.{Option, none, some, Option·getD}
 use lib.ListN.{length}
-use lib.Ieee.{Float, add, mul, ofInt}
+use lib.Ieee.{Float, add, mul, neg, ofInt}
 use Rattle.base.specs.Bytes.{Bytes, ascii, same}
+use Rattle.base.specs.Choice.{clash}
 use Rattle.base.specs.Map.{Entry, Map, entry, lookup, member}
 use Rattle.base.specs.Entity.{Entity}
 use Rattle.sheet.specs.Sheet.{area, exists, Test, unary, Rule, Value, identifier, numbers}
@@ -305,3 +306,18 @@ needs-default-width claim =
     (ap (andMap (λ s. s .casingWidth))
     (claim casing 13 (wide 4) (wide 5) one one (wideLayers 4) (wideLayers 5) (wide-left 4 5)
     (agree-self one (strike casing (wide 4))) (wide-answers 4) (wide-answers 5) refl settings refl))
+
+-- "none counts as 0" is +0: a default width of -0 is another, and a casing of -0 shows it
+abbrev minusZero : Bytes → Entry Value
+minusZero n = entry n (numbers (neg (whole 0) ∷ []))
+
+abbrev signOf : Layers Value → Option Float
+signOf v = andMap (λ s. s .casingWidth) (lookup casing (styles settings one v))
+
+pub minus-zero-differs :
+    signOf (entry defaultName (minusZero (ascii "width") ∷ []) ∷ entry casing (minusZero (ascii "casing-width") ∷ []) ∷ [])
+    ≡ signOf (entry casing (minusZero (ascii "casing-width") ∷ []) ∷ [])
+    → ⊥
+unfolding same keep lookup andMap orElse asNumber asDelta widthOrZero baseWidth casingMultiplier casingOnly fullCasing styleFrom
+    styles add mul ofInt neg
+minus-zero-differs p = let z : _≡_ {A = Bool} true false = cc in clash refl z

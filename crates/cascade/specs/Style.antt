@@ -67,10 +67,17 @@ rgb x y z = record { r = x; g = y; b = z }
 
 unfoldable pub colorNames : Map Color
 colorNames =
-    entry (ascii "white") (rgb 255 255 255) ∷ entry (ascii "black") (rgb 0 0 0) ∷ entry (ascii "blue") (rgb 0 0 255) ∷
-    entry (ascii "brown") (rgb 165 42 42) ∷ entry (ascii "green") (rgb 0 255 0) ∷ entry (ascii "grey")
-    (rgb 128 128 128) ∷ entry (ascii "pink") (rgb 255 192 203) ∷ entry (ascii "purple") (rgb 128 0 128) ∷ entry
-    (ascii "red") (rgb 255 0 0) ∷ entry (ascii "salmon") (rgb 250 128 114) ∷ []
+    entry (ascii "white") (rgb 255 255 255)
+    ∷ entry (ascii "black") (rgb 0 0 0)
+    ∷ entry (ascii "blue") (rgb 0 0 255)
+    ∷ entry (ascii "brown") (rgb 165 42 42)
+    ∷ entry (ascii "green") (rgb 0 255 0)
+    ∷ entry (ascii "grey") (rgb 128 128 128)
+    ∷ entry (ascii "pink") (rgb 255 192 203)
+    ∷ entry (ascii "purple") (rgb 128 0 128)
+    ∷ entry (ascii "red") (rgb 255 0 0)
+    ∷ entry (ascii "salmon") (rgb 250 128 114)
+    ∷ []
 
 -- what the getters read from a value; `none` is an absent property
 unfoldable pub asColor : Option Value → Option Color
@@ -152,13 +159,21 @@ baseWidth m base = Option·getD (widthOf m) (widthOrZero base)
 unfoldable pub casingOnly : Float → Option Value → Option Float
 casingOnly w o = orElse (asNumber o) (andMap (λ d. some (add binary64 w d)) (asDelta o))
 
+-- base width + multiplier × casing width
 unfoldable pub fullCasing : Float → Float → Option Float → Option Float
 fullCasing k w = andMap (λ c. some (add binary64 w (mul binary64 k c)))
 
 unfoldable pub textOf : Settings → Map Value → Bytes → TextStyle
 textOf s m t =
-    record
-    { text = t; textColor = asColor (lookup (ascii "text-color") m); textPosition = andMap (λ i. lookup i positionNames) (asIdentifier (lookup (ascii "text-position") m)); fontSize = andMap (λ x. some (mul binary64 x (Option·getD (s .fontMultiplier) (whole 1)))) (asNumber (lookup (ascii "font-size") m)) }
+    record {
+      text = t;
+      textColor = asColor (lookup (ascii "text-color") m);
+      textPosition = andMap (λ i. lookup i positionNames) (asIdentifier (lookup (ascii "text-position") m));
+      fontSize =
+          andMap
+          (λ x. some (mul binary64 x (Option·getD (s .fontMultiplier) (whole 1))))
+          (asNumber (lookup (ascii "font-size") m));
+    }
 
 -- the style of a layer with the properties m, for an entity of kind k whose tag `layer` reads as t, where the width for casings is w
 unfoldable pub styleFrom : Settings → ℕ → Option ℤ → Float → Map Value → Style
