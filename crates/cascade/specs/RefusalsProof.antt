@@ -206,6 +206,10 @@ module _ {A : Type 0} where
             rw (r .stands, walk-append z e [] (r .before) (r .here ∷ r .after), r .quiet, v)
             (refuse (r .before) (r .here) (r .after) n (r .cause))
 
+    -- a selector gives cause for one number at most: which comes first is decided
+    pub cause-one : (before : List (Clause A)) (c : Clause A) (n m : ℕ) → Cause z e before c n → Cause z e before c m → n ≡ m
+    cause-one before c n m a b = let p = refuse before c [] n a in let q = refuse before c [] m b in cc
+
     -- so an entity is refused under these conditions only, and otherwise gets the layers of its matched selectors
     pub answered :
         (rs : List (Rule A))
