@@ -1,0 +1,1 @@
+// A sheet's rules as values: specs/Sheet.antt.
