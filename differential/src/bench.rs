@@ -54,7 +54,7 @@ fn original_tokens(text: &str) -> usize {
 fn our_tokens(text: &str) -> usize {
     use crate::ffi::{cursor, raw_next_token, Room};
     use crate::tokens::{Cursor, END, ERROR};
-    let mut room = Room::default();
+    let mut room = Room::new();
     let mut from = Cursor::START;
     let mut n = 0;
     loop {

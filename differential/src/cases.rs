@@ -28,6 +28,19 @@ const WORDS: [&str; 16] = [
     "a/b", "-x", "_", "import",
 ];
 
+/// Numbers around the lengths where the steps of reading them change: no longer exact, infinite, NaN.
+pub fn long_numbers() -> Vec<String> {
+    let mut all = Vec::new();
+    for n in [15, 16, 17, 18, 22, 23, 24, 54, 100, 255, 256, 291, 307, 308, 309, 310, 323, 324, 325, 330] {
+        for digits in ["9", "0", "7182818284"] {
+            let digits: String = digits.chars().cycle().take(n).collect();
+            all.push(format!("-3.{digits}"));
+            all.push(format!("{digits}.5"));
+        }
+    }
+    all
+}
+
 /// All texts of `beginning` and up to `most` characters of the alphabet.
 pub fn all_short(beginning: &str, most: usize, run: &mut impl FnMut(&str)) {
     run(beginning);

@@ -19,11 +19,17 @@ extern "C" {
     ) -> u64;
 }
 
-/// What the export writes: see crates/capi/src/lib.rt.
-#[derive(Default)]
+/// What mapcss_next_token writes.
 pub struct Room {
     pub out: [u64; 10],
     pub number: [f64; 1],
+}
+
+impl Room {
+    /// Filled with what no answer holds, so that a word left unwritten shows.
+    pub fn new() -> Room {
+        Room { out: [u64::MAX; 10], number: [-1e300] }
+    }
 }
 
 /// One step as it comes, for timing.
@@ -49,7 +55,7 @@ pub fn cursor(out: &[u64]) -> Cursor {
 }
 
 pub fn next_token(text: &[u8], from: Cursor) -> Step {
-    let mut room = Room::default();
+    let mut room = Room::new();
     let kind = raw_next_token(text, from, &mut room);
     assert!(kind < KINDS.len() as u64, "kind {kind} is none of the codes");
     let kind = kind as u8;
@@ -62,13 +68,15 @@ pub fn next_token(text: &[u8], from: Cursor) -> Step {
         ERROR => (p[1] as usize, p[2] as usize),
         _ => place,
     };
-    let payload = match kind {
-        ERROR => Payload::Reason(p[0]),
-        2 | 3 | 4 | 7 => Payload::Range(p[0] as usize, p[1] as usize),
-        5 => Payload::Number(bits(room.number[0])),
-        6 => Payload::Zoom(level(p[0], p[1]), level(p[2], p[3])),
-        8 => Payload::Color(p[0], p[1], p[2]),
-        _ => Payload::None,
+    let (used, payload) = match kind {
+        ERROR => (3, Payload::Reason(p[0])),
+        2 | 3 | 4 | 7 => (2, Payload::Range(p[0] as usize, p[1] as usize)),
+        5 => (0, Payload::Number(bits(room.number[0]))),
+        6 => (4, Payload::Zoom(level(p[0], p[1]), level(p[2], p[3]))),
+        8 => (3, Payload::Color(p[0], p[1], p[2])),
+        _ => (0, Payload::None),
     };
+    assert!(p[used..].iter().all(|&word| word == 0), "words behind the payload: {p:?}");
+    assert!(kind == 5 || room.number[0] == 0.0, "a number with kind {kind}");
     Step { kind, line, character, payload, cursor: (kind != ERROR).then_some(after) }
 }

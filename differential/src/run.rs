@@ -1,6 +1,6 @@
 //! The comparison over all cases.
 
-use crate::cases::{all_short, random_case, ALPHABET, BEGINNINGS, EXAMPLES};
+use crate::cases::{all_short, long_numbers, random_case, ALPHABET, BEGINNINGS, EXAMPLES};
 use crate::random::Random;
 use crate::sheets;
 use crate::tokens::{self, Counts};
@@ -61,6 +61,7 @@ pub fn run(seed: u64, count: u64) -> bool {
     let mut run = Run::default();
 
     EXAMPLES.iter().for_each(|text| run.text(text));
+    long_numbers().iter().for_each(|text| run.text(text));
     all_short("", 4, &mut |text| run.text(text));
     for beginning in BEGINNINGS {
         all_short(beginning, 3, &mut |text| run.text(text));
@@ -78,7 +79,8 @@ pub fn run(seed: u64, count: u64) -> bool {
         println!("a kind or a reason never came up");
     }
     if cfg!(not(feature = "rattle")) {
-        println!("built without our library: nothing was compared");
+        println!("{} cases, nothing compared: built without our library", run.cases);
+        return false;
     }
     println!("{} cases, {} differences", run.cases, run.differences);
     sheets_read && all_met && run.differences == 0

@@ -1,6 +1,6 @@
 //! A sample of the original's answers, for a replay without Rust. README.md has the format.
 
-use crate::cases::{all_short, random_case, EXAMPLES};
+use crate::cases::{all_short, long_numbers, random_case, EXAMPLES};
 use crate::random::Random;
 use crate::sheets;
 use crate::tokens::{self, put, Counts};
@@ -33,10 +33,11 @@ impl Sample {
     }
 }
 
-/// The examples, all texts of up to 2 characters and `count` random ones of the seed.
+/// The examples, long numbers, all texts of up to 2 characters and `count` random ones of the seed.
 pub fn write(directory: &Path, seed: u64, count: u64) -> bool {
     let mut sample = Sample { files: Vec::new(), cases: 0, counts: Counts::default() };
     EXAMPLES.iter().for_each(|text| sample.text(text));
+    long_numbers().iter().for_each(|text| sample.text(text));
     all_short("", 2, &mut |text| sample.text(text));
     let sheets = sheets::texts();
     let random = (0..).map(|index| random_case(&mut Random::new(seed, index), &sheets));
