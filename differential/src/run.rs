@@ -20,23 +20,22 @@ impl Run {
         self.cases += 1;
         let original = tokens::original(text);
         self.counts.add(&original);
-        if let Some(mut what) = tokens::difference(&original, &tokens::ours(text)) {
+        if tokens::difference(&original, &tokens::ours(text)).is_some() {
             self.differences += 1;
             if self.differences <= SHOWN {
-                let small = shrunk(text, &mut |t| {
-                    let found = tokens::difference(&tokens::original(t), &tokens::ours(t));
-                    let differs = found.is_some();
-                    what = found.unwrap_or(std::mem::take(&mut what));
-                    differs
-                });
-                println!("difference {}: {small:?}: {what}", self.differences);
+                let small = shrunk(text, &|t| difference(t).is_some());
+                println!("difference {}: {small:?}: {}", self.differences, difference(&small).unwrap());
             }
         }
     }
 }
 
+fn difference(text: &str) -> Option<String> {
+    tokens::difference(&tokens::original(text), &tokens::ours(text))
+}
+
 /// The text with characters left out, as long as it still differs.
-fn shrunk(text: &str, differs: &mut impl FnMut(&str) -> bool) -> String {
+fn shrunk(text: &str, differs: &impl Fn(&str) -> bool) -> String {
     let mut chars: Vec<char> = text.chars().collect();
     let mut length = chars.len() / 2;
     while length > 0 {

@@ -44,8 +44,11 @@ pub fn write(directory: &Path, seed: u64, count: u64) -> bool {
     random.filter(|text| text.len() <= TEXT_BYTES).take(count as usize).for_each(|text| sample.text(&text));
 
     fs::create_dir_all(directory).unwrap();
+    let path = |number: usize| directory.join(format!("tokens{number}"));
+    // what an earlier, larger sample left
+    (sample.files.len()..).take_while(|&number| fs::remove_file(path(number)).is_ok()).for_each(drop);
     for (number, file) in sample.files.iter().enumerate() {
-        fs::write(directory.join(format!("tokens{number}")), file).unwrap();
+        fs::write(path(number), file).unwrap();
         println!("tokens{number}: {} bytes", file.len());
     }
     println!("{} cases", sample.cases);
