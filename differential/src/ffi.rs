@@ -76,7 +76,12 @@ pub fn next_token(text: &[u8], from: Cursor) -> Step {
         8 => (3, Payload::Color(p[0], p[1], p[2])),
         _ => (0, Payload::None),
     };
-    assert!(p[used..].iter().all(|&word| word == 0), "words behind the payload: {p:?}");
+    let unused = match kind {
+        END => &room.out[4..6],
+        ERROR => &room.out[..6],
+        _ => &[],
+    };
+    assert!(unused.iter().chain(&p[used..]).all(|&word| word == 0), "kind {kind}, words {:?}", room.out);
     assert!(kind == 5 || room.number[0] == 0.0, "a number with kind {kind}");
     Step { kind, line, character, payload, cursor: (kind != ERROR).then_some(after) }
 }
