@@ -51,6 +51,14 @@ pub fn all_short(beginning: &str, most: usize, run: &mut impl FnMut(&str)) {
     }
 }
 
+/// Each character of Unicode before a name and in an import: is it a blank, how wide is it.
+pub fn every_character(run: &mut impl FnMut(&str)) {
+    for c in '\0'..=char::MAX {
+        run(&format!("{c}a"));
+        run(&format!("@import{c}\"a\"{c};"));
+    }
+}
+
 /// A random text or, as often, a damaged part of a sheet.
 pub fn random_case(r: &mut Random, sheets: &[String]) -> String {
     if r.one_in(2) {

@@ -1,6 +1,6 @@
 //! The comparison over all cases.
 
-use crate::cases::{all_short, long_numbers, random_case, ALPHABET, BEGINNINGS, EXAMPLES};
+use crate::cases::{all_short, every_character, long_numbers, random_case, ALPHABET, BEGINNINGS, EXAMPLES};
 use crate::random::Random;
 use crate::sheets;
 use crate::tokens::{self, Counts};
@@ -66,6 +66,7 @@ pub fn run(seed: u64, count: u64) -> bool {
         all_short(beginning, 3, &mut |text| run.text(text));
     }
     println!("{} short texts over {ALPHABET:?}", run.cases);
+    every_character(&mut |text| run.text(text));
 
     sheets.iter().for_each(|text| run.text(text));
     for index in 0..count {

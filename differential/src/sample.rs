@@ -24,7 +24,7 @@ impl Sample {
             put(&mut case, part.len());
             case.extend(part);
         }
-        if self.files.last().map_or(true, |file| file.len() + case.len() > FILE_BYTES) {
+        if self.files.last().is_none_or(|file| file.len() + case.len() > FILE_BYTES) {
             self.files.push(Vec::new());
         }
         self.files.last_mut().unwrap().extend(case);

@@ -8,33 +8,9 @@ pub const REASONS: usize = 12;
 
 /// What each code of crate capi stands for: end, error, then Token's variants in their order.
 pub const KINDS: [&str; 28] = [
-    "end",
-    "error",
-    "Import",
-    "Identifier",
-    "String",
-    "Number",
-    "ZoomRange",
-    "ColorRef",
-    "Color",
-    "LeftParen",
-    "RightParen",
-    "LeftBracket",
-    "RightBracket",
-    "LeftBrace",
-    "RightBrace",
-    "Equal",
-    "NotEqual",
-    "Less",
-    "Greater",
-    "LessOrEqual",
-    "GreaterOrEqual",
-    "RegexMatch",
-    "Bang",
-    "QuestionMark",
-    "Colon",
-    "DoubleColon",
-    "SemiColon",
+    "end", "error", "Import", "Identifier", "String", "Number", "ZoomRange", "ColorRef", "Color", "LeftParen",
+    "RightParen", "LeftBracket", "RightBracket", "LeftBrace", "RightBrace", "Equal", "NotEqual", "Less", "Greater",
+    "LessOrEqual", "GreaterOrEqual", "RegexMatch", "Bang", "QuestionMark", "Colon", "DoubleColon", "SemiColon",
     "Comma",
 ];
 
@@ -117,11 +93,7 @@ pub fn ours(text: &str) -> Vec<Step> {
 /// The place and both sides of the first step in which the two differ.
 pub fn difference(original: &[Step], ours: &[Step]) -> Option<String> {
     let k = (0..original.len().max(ours.len())).find(|&k| original.get(k) != ours.get(k))?;
-    Some(format!(
-        "step {k}\n  original {}\n  ours     {}",
-        shown(original.get(k)),
-        shown(ours.get(k))
-    ))
+    Some(format!("step {k}\n  original {}\n  ours     {}", shown(original.get(k)), shown(ours.get(k))))
 }
 
 fn shown(step: Option<&Step>) -> String {
