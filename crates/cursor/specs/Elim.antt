@@ -1,4 +1,4 @@
--- Eliminators of the enums of cursor, with their laws. Written by tools/elims.py.
+-- Eliminators of the enums of cursor, with their laws.
 use mathlib.Core.Path.{_≡_, sym, ap, _∙_}
 use Prim.Native.Nat.{ℕ}
 use Rattle.cursor.specs.declared.Comment.{Comment}
@@ -15,9 +15,6 @@ unfoldable pub on-Next : {B : Type 0} → Next → (Cursor → B) → (ℕ → C
 on-Next (Done x0) k0 k1 = k0 x0
 on-Next (Got x0 x1) k0 k1 = k1 x0 x1
 
-unfoldable pub with-Next : {T B : Type 0} → Next × T → (Cursor → T → B) → (ℕ → Cursor → T → B) → B
-with-Next x k0 k1 = on-Next (x .0) (λ x0. k0 x0 (x .1)) (λ x0 x1. k1 x0 x1 (x .1))
-
 pub Next-Done : {B : Type 0} (x : Next) (k0 : Cursor → B) (k1 : ℕ → Cursor → B) {x0 : Cursor} {y : B} → x ≡ Done x0 → y ≡ k0 x0 → y ≡ on-Next x k0 k1
 unfolding on-Next
 Next-Done x k0 k1 e h = h ∙ sym (ap (λ x. on-Next x k0 k1) e)
@@ -26,20 +23,9 @@ pub Next-Got : {B : Type 0} (x : Next) (k0 : Cursor → B) (k1 : ℕ → Cursor 
 unfolding on-Next
 Next-Got x k0 k1 e h = h ∙ sym (ap (λ x. on-Next x k0 k1) e)
 
-pub Next-Done-with : {T B : Type 0} (x : Next × T) (k0 : Cursor → T → B) (k1 : ℕ → Cursor → T → B) {x0 : Cursor} {u : T} {y : B} → x ≡ (Done x0, u) → y ≡ k0 x0 u → y ≡ with-Next x k0 k1
-unfolding on-Next with-Next
-Next-Done-with x k0 k1 e h = h ∙ sym (ap (λ x. with-Next x k0 k1) e)
-
-pub Next-Got-with : {T B : Type 0} (x : Next × T) (k0 : Cursor → T → B) (k1 : ℕ → Cursor → T → B) {x0 : ℕ} {x1 : Cursor} {u : T} {y : B} → x ≡ (Got x0 x1, u) → y ≡ k1 x0 x1 u → y ≡ with-Next x k0 k1
-unfolding on-Next with-Next
-Next-Got-with x k0 k1 e h = h ∙ sym (ap (λ x. with-Next x k0 k1) e)
-
 unfoldable pub on-Digit : {B : Type 0} → Digit → B → (ℕ → B) → B
 on-Digit NoDigit k0 k1 = k0
 on-Digit (IsDigit x0) k0 k1 = k1 x0
-
-unfoldable pub with-Digit : {T B : Type 0} → Digit × T → (T → B) → (ℕ → T → B) → B
-with-Digit x k0 k1 = on-Digit (x .0) (k0 (x .1)) (λ x0. k1 x0 (x .1))
 
 pub Digit-NoDigit : {B : Type 0} (x : Digit) (k0 : B) (k1 : ℕ → B) {y : B} → x ≡ NoDigit → y ≡ k0 → y ≡ on-Digit x k0 k1
 unfolding on-Digit
@@ -49,21 +35,10 @@ pub Digit-IsDigit : {B : Type 0} (x : Digit) (k0 : B) (k1 : ℕ → B) {x0 : ℕ
 unfolding on-Digit
 Digit-IsDigit x k0 k1 e h = h ∙ sym (ap (λ x. on-Digit x k0 k1) e)
 
-pub Digit-NoDigit-with : {T B : Type 0} (x : Digit × T) (k0 : T → B) (k1 : ℕ → T → B) {u : T} {y : B} → x ≡ (NoDigit, u) → y ≡ k0 u → y ≡ with-Digit x k0 k1
-unfolding on-Digit with-Digit
-Digit-NoDigit-with x k0 k1 e h = h ∙ sym (ap (λ x. with-Digit x k0 k1) e)
-
-pub Digit-IsDigit-with : {T B : Type 0} (x : Digit × T) (k0 : T → B) (k1 : ℕ → T → B) {x0 : ℕ} {u : T} {y : B} → x ≡ (IsDigit x0, u) → y ≡ k1 x0 u → y ≡ with-Digit x k0 k1
-unfolding on-Digit with-Digit
-Digit-IsDigit-with x k0 k1 e h = h ∙ sym (ap (λ x. with-Digit x k0 k1) e)
-
 unfoldable pub on-Comment : {B : Type 0} → Comment → (Cursor → B) → B → (Cursor → B) → B
 on-Comment (OpenComment x0) k0 k1 k2 = k0 x0
 on-Comment NoComment k0 k1 k2 = k1
 on-Comment (Skipped x0) k0 k1 k2 = k2 x0
-
-unfoldable pub with-Comment : {T B : Type 0} → Comment × T → (Cursor → T → B) → (T → B) → (Cursor → T → B) → B
-with-Comment x k0 k1 k2 = on-Comment (x .0) (λ x0. k0 x0 (x .1)) (k1 (x .1)) (λ x0. k2 x0 (x .1))
 
 pub Comment-OpenComment : {B : Type 0} (x : Comment) (k0 : Cursor → B) (k1 : B) (k2 : Cursor → B) {x0 : Cursor} {y : B} → x ≡ OpenComment x0 → y ≡ k0 x0 → y ≡ on-Comment x k0 k1 k2
 unfolding on-Comment
@@ -77,25 +52,10 @@ pub Comment-Skipped : {B : Type 0} (x : Comment) (k0 : Cursor → B) (k1 : B) (k
 unfolding on-Comment
 Comment-Skipped x k0 k1 k2 e h = h ∙ sym (ap (λ x. on-Comment x k0 k1 k2) e)
 
-pub Comment-OpenComment-with : {T B : Type 0} (x : Comment × T) (k0 : Cursor → T → B) (k1 : T → B) (k2 : Cursor → T → B) {x0 : Cursor} {u : T} {y : B} → x ≡ (OpenComment x0, u) → y ≡ k0 x0 u → y ≡ with-Comment x k0 k1 k2
-unfolding on-Comment with-Comment
-Comment-OpenComment-with x k0 k1 k2 e h = h ∙ sym (ap (λ x. with-Comment x k0 k1 k2) e)
-
-pub Comment-NoComment-with : {T B : Type 0} (x : Comment × T) (k0 : Cursor → T → B) (k1 : T → B) (k2 : Cursor → T → B) {u : T} {y : B} → x ≡ (NoComment, u) → y ≡ k1 u → y ≡ with-Comment x k0 k1 k2
-unfolding on-Comment with-Comment
-Comment-NoComment-with x k0 k1 k2 e h = h ∙ sym (ap (λ x. with-Comment x k0 k1 k2) e)
-
-pub Comment-Skipped-with : {T B : Type 0} (x : Comment × T) (k0 : Cursor → T → B) (k1 : T → B) (k2 : Cursor → T → B) {x0 : Cursor} {u : T} {y : B} → x ≡ (Skipped x0, u) → y ≡ k2 x0 u → y ≡ with-Comment x k0 k1 k2
-unfolding on-Comment with-Comment
-Comment-Skipped-with x k0 k1 k2 e h = h ∙ sym (ap (λ x. with-Comment x k0 k1 k2) e)
-
 unfoldable pub on-Significant : {B : Type 0} → Significant → (Cursor → B) → (Cursor → B) → (ℕ → ℕ → Cursor → B) → B
 on-Significant (Broken x0) k0 k1 k2 = k0 x0
 on-Significant (Ended x0) k0 k1 k2 = k1 x0
 on-Significant (Found x0 x1 x2) k0 k1 k2 = k2 x0 x1 x2
-
-unfoldable pub with-Significant : {T B : Type 0} → Significant × T → (Cursor → T → B) → (Cursor → T → B) → (ℕ → ℕ → Cursor → T → B) → B
-with-Significant x k0 k1 k2 = on-Significant (x .0) (λ x0. k0 x0 (x .1)) (λ x0. k1 x0 (x .1)) (λ x0 x1 x2. k2 x0 x1 x2 (x .1))
 
 pub Significant-Broken : {B : Type 0} (x : Significant) (k0 : Cursor → B) (k1 : Cursor → B) (k2 : ℕ → ℕ → Cursor → B) {x0 : Cursor} {y : B} → x ≡ Broken x0 → y ≡ k0 x0 → y ≡ on-Significant x k0 k1 k2
 unfolding on-Significant
@@ -108,15 +68,3 @@ Significant-Ended x k0 k1 k2 e h = h ∙ sym (ap (λ x. on-Significant x k0 k1 k
 pub Significant-Found : {B : Type 0} (x : Significant) (k0 : Cursor → B) (k1 : Cursor → B) (k2 : ℕ → ℕ → Cursor → B) {x0 : ℕ} {x1 : ℕ} {x2 : Cursor} {y : B} → x ≡ Found x0 x1 x2 → y ≡ k2 x0 x1 x2 → y ≡ on-Significant x k0 k1 k2
 unfolding on-Significant
 Significant-Found x k0 k1 k2 e h = h ∙ sym (ap (λ x. on-Significant x k0 k1 k2) e)
-
-pub Significant-Broken-with : {T B : Type 0} (x : Significant × T) (k0 : Cursor → T → B) (k1 : Cursor → T → B) (k2 : ℕ → ℕ → Cursor → T → B) {x0 : Cursor} {u : T} {y : B} → x ≡ (Broken x0, u) → y ≡ k0 x0 u → y ≡ with-Significant x k0 k1 k2
-unfolding on-Significant with-Significant
-Significant-Broken-with x k0 k1 k2 e h = h ∙ sym (ap (λ x. with-Significant x k0 k1 k2) e)
-
-pub Significant-Ended-with : {T B : Type 0} (x : Significant × T) (k0 : Cursor → T → B) (k1 : Cursor → T → B) (k2 : ℕ → ℕ → Cursor → T → B) {x0 : Cursor} {u : T} {y : B} → x ≡ (Ended x0, u) → y ≡ k1 x0 u → y ≡ with-Significant x k0 k1 k2
-unfolding on-Significant with-Significant
-Significant-Ended-with x k0 k1 k2 e h = h ∙ sym (ap (λ x. with-Significant x k0 k1 k2) e)
-
-pub Significant-Found-with : {T B : Type 0} (x : Significant × T) (k0 : Cursor → T → B) (k1 : Cursor → T → B) (k2 : ℕ → ℕ → Cursor → T → B) {x0 : ℕ} {x1 : ℕ} {x2 : Cursor} {u : T} {y : B} → x ≡ (Found x0 x1 x2, u) → y ≡ k2 x0 x1 x2 u → y ≡ with-Significant x k0 k1 k2
-unfolding on-Significant with-Significant
-Significant-Found-with x k0 k1 k2 e h = h ∙ sym (ap (λ x. with-Significant x k0 k1 k2) e)
