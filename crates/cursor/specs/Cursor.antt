@@ -10,8 +10,11 @@ use Rattle.cursor.specs.declared.Cursor.{Cursor}
 use Rattle.cursor.specs.declared.Next.{Next}
 use Rattle.cursor.specs.declared.Next.the-variants.{Done, Got}
 
+abbrev pub cursor : ℕ → ℕ → ℕ → Bool → Cursor
+cursor at line character newline = record { at = at; line = line; character = character; newline = newline }
+
 abbrev pub start : Cursor
-start = record { at = 0; line = 1; character = 0; newline = false }
+start = cursor 0 1 0 false
 
 -- the largest number of the machine
 abbrev pub most : ℕ
