@@ -21,22 +21,9 @@ use Rattle.cursor.specs.declared.Next.{Next}
 use Rattle.cursor.specs.declared.Next.the-variants.{Done, Got}
 
 -- a byte below 128 is a character
-char-ascii : (s : Bytes) (at : ℕ) → at < length s → getD s at 0 ≤ 0x7F → Code (getD s at 0) 1 ≡ charAt s at
+pub char-ascii : (s : Bytes) (at : ℕ) → at < length s → getD s at 0 ≤ 0x7F → Code (getD s at 0) 1 ≡ charAt s at
 unfolding charAt charOf byRow gathered pick fits
 char-ascii s at h l = rw (drop-cons s at 0 h) (simp (one-fits (getD s at 0) l))
-
-module _ (s : Bytes) (c d : Cursor) where
-  pub next-end : length s ≤ c .at → d ≡ passed c (c .at) false → Done d ≡ nextChar s c
-  unfolding nextChar
-  next-end h e = Char-End _ _ _ _ (sym (char-end s (c .at) h)) (ap Done e)
-
-  pub next-ascii :
-      c .at < length s
-      → getD s (c .at) 0 ≤ 0x7F
-      → d ≡ passed c (c .at + 1) (eqb (getD s (c .at) 0) 10)
-      → Got (getD s (c .at) 0) d ≡ nextChar s c
-  unfolding nextChar
-  next-ascii h l e = Char-Code _ _ _ _ (sym (char-ascii s (c .at) h l)) (ap (Got (getD s (c .at) 0)) e)
 
 pub char-fits : (s : Bytes) (at k w : ℕ) (r : Char) → length s < 2 ^ 64 → r ≡ charAt s at → r ≡ Code k w → Fits w64 (at + w)
 char-fits s at k w r h e m = let l = char-within s at k w (sym e ∙ m) in record { fits = omega arith }

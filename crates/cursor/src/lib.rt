@@ -2,6 +2,7 @@
 ghost use mathlib.Core.Path.{_≡_};
 ghost use mathlib.Core.Bool.{_&&_};
 ghost use lib.Dec.{leb};
+ghost use Rattle.utf8.specs.Utf8.{charAt};
 ghost use Rattle.cursor.specs.Cursor.{start, bump, passed, nextChar};
 ghost use Rattle.cursor.specs.Class.{canBeInAtDirective, canStartIdentifier, canContinueIdentifier, digitValue, toDigit};
 use utf8::Char;
@@ -62,22 +63,7 @@ impl Cursor {
         ensures { λ r. ⌜ r ≡ nextChar (now (s .entry)) self ⌝ }
     {
         let at = self.at;
-        if s.len() <= at {
-            return Next::Done(self.passed(at, false));
-        }
-        let b = s[at];
-        if b <= 0x7F {
-            return Next::Got(b as u32, self.passed(at + 1, b == 10));
-        }
-        self.next_wide(s)
-    }
-
-    // The next character, whatever its width.
-    fn next_wide(self, s: &[u8]) -> Next
-        ensures { λ r. ⌜ r ≡ nextChar (now (s .entry)) self ⌝ }
-    {
-        let at = self.at;
-        match char_at(s, at) {
+        match peek(s, at) {
             Char::Bad => Next::Done(self.passed(at, false)),
             Char::End => Next::Done(self.passed(at, false)),
             Char::Code(k, w) => Next::Got(k, self.passed(at + w, k == 10)),
@@ -103,6 +89,20 @@ impl Cursor {
             newline,
         }
     }
+}
+
+// The character at a place, by char_at, but for the bytes that are characters.
+fn peek(s: &[u8], at: usize) -> Char
+    ensures { λ r. ⌜ r ≡ charAt (now (s .entry)) at ⌝ }
+{
+    if s.len() <= at {
+        return char_at(s, at);
+    }
+    let b = s[at];
+    if b <= 0x7F {
+        return Char::Code(b as u32, 1);
+    }
+    char_at(s, at)
 }
 
 // One more. A count stays at the largest number, which no text reaches.
