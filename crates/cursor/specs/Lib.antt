@@ -1,0 +1,6 @@
+pub mod Elim
+pub mod Cursor
+pub mod Class
+pub mod Blank
+pub mod Number
+pub mod Reach

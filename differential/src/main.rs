@@ -1,0 +1,44 @@
+//! Runs the original and our engine on the same inputs and compares. README.md says how.
+
+mod bench;
+mod cases;
+#[cfg(feature = "rattle")]
+mod ffi;
+mod random;
+mod run;
+mod sample;
+mod sheets;
+mod tokens;
+
+// The original names these from the crate's root.
+#[path = "shims/coords.rs"]
+mod coords;
+#[path = "shims/tile.rs"]
+mod tile;
+include!(concat!(env!("OUT_DIR"), "/original.rs"));
+
+use std::path::PathBuf;
+use std::process::ExitCode;
+
+const USAGE: &str = "differential run SEED COUNT | sample DIRECTORY SEED COUNT | bench | sheets";
+
+fn main() -> ExitCode {
+    let args: Vec<String> = std::env::args().skip(1).collect();
+    let args: Vec<&str> = args.iter().map(String::as_str).collect();
+    let number = |text: &str| text.parse::<u64>().unwrap_or_else(|_| panic!("{text} is no number"));
+    let good = match args[..] {
+        ["run", seed, count] => run::run(number(seed), number(count)),
+        ["sample", directory, seed, count] => sample::write(&PathBuf::from(directory), number(seed), number(count)),
+        ["bench"] => bench::bench(),
+        ["sheets"] => sheets::check(),
+        _ => {
+            eprintln!("usage: {USAGE}");
+            false
+        }
+    };
+    if good {
+        ExitCode::SUCCESS
+    } else {
+        ExitCode::FAILURE
+    }
+}
