@@ -35,20 +35,20 @@ pub fn float_at(t: &[f64], i: usize) -> f64
 }
 
 // Stores a word, and nothing past the end.
-pub fn set_word(t: &mut [u32], i: usize, v: u32)
-    ensures { λ _. ⌜ now (t .exit) ≡ set (now (t .entry)) i v ⌝ }
+pub fn set_word(t: &mut [u32], at: usize, v: u32)
+    ensures { λ _. ⌜ now (t .exit) ≡ set (now (t .entry)) at v ⌝ }
 {
-    if i < t.len() {
-        t[i] = v;
+    if at < t.len() {
+        t[at] = v;
     }
 }
 
 // Stores a number, and nothing past the end.
-pub fn set_float(t: &mut [f64], i: usize, x: f64)
-    ensures { λ _. ⌜ now (t .exit) ≡ set (now (t .entry)) i x ⌝ }
+pub fn set_float(t: &mut [f64], place: usize, x: f64)
+    ensures { λ _. ⌜ now (t .exit) ≡ set (now (t .entry)) place x ⌝ }
 {
-    if i < t.len() {
-        t[i] = x;
+    if place < t.len() {
+        t[place] = x;
     }
 }
 

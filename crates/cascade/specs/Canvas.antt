@@ -5,7 +5,8 @@ use mathlib.Core.List.{List, [], _∷_}
 use mathlib.Core.Option.{Option, none, some}
 use Rattle.base.specs.Bytes.{Bytes, ascii, same}
 use Rattle.base.specs.Map.{Entry}
-use Rattle.sheet.specs.Sheet.{ObjectType, all, canvas, meta, node, way, area, Rule, Value, identifier, string, color, numbers, widthDelta, Color}
+use Rattle.color.specs.declared.Color.{Color}
+use Rattle.sheet.specs.Sheet.{ObjectType, all, canvas, meta, node, way, area, Rule, Value, identifier, string, color, numbers, widthDelta}
 use Rattle.cascade.specs.Map.{orElse}
 use Rattle.cascade.specs.Clause.{Clause, clauses}
 use Rattle.cascade.specs.Style.{StyleType, josm, mapsMe}

@@ -9,7 +9,11 @@ use lib.Ieee.{Float, binary64, add, mul}
 use Rattle.base.specs.Bytes.{Bytes, ascii, same}
 use Rattle.base.specs.Map.{Entry, Map, entry, lookup}
 use Rattle.base.specs.Entity.{Entity}
-use Rattle.sheet.specs.Sheet.{Value, identifier, string, color, numbers, widthDelta, Color}
+use Rattle.color.specs.Named.{colorNamed}
+use Rattle.color.specs.declared.Color.{Color}
+use Rattle.color.specs.declared.NamedColor.{NamedColor}
+use Rattle.color.specs.declared.NamedColor.the-variants.{Unknown, Known}
+use Rattle.sheet.specs.Sheet.{Value, identifier, string, color, numbers, widthDelta}
 use Rattle.cascade.specs.Map.{keep, andMap, orElse, mapEntry}
 use Rattle.cascade.specs.Number.{asInteger, whole}
 use Rattle.cascade.specs.Clause.{star, defaultName}
@@ -62,27 +66,15 @@ unfoldable pub casingMultiplier : StyleType → Float
 casingMultiplier josm = whole 2
 casingMultiplier mapsMe = whole 1
 
-abbrev pub rgb : ℕ → ℕ → ℕ → Color
-rgb x y z = record { r = x; g = y; b = z }
-
-unfoldable pub colorNames : Map Color
-colorNames =
-    entry (ascii "white") (rgb 255 255 255)
-    ∷ entry (ascii "black") (rgb 0 0 0)
-    ∷ entry (ascii "blue") (rgb 0 0 255)
-    ∷ entry (ascii "brown") (rgb 165 42 42)
-    ∷ entry (ascii "green") (rgb 0 255 0)
-    ∷ entry (ascii "grey") (rgb 128 128 128)
-    ∷ entry (ascii "pink") (rgb 255 192 203)
-    ∷ entry (ascii "purple") (rgb 128 0 128)
-    ∷ entry (ascii "red") (rgb 255 0 0)
-    ∷ entry (ascii "salmon") (rgb 250 128 114)
-    ∷ []
+-- the colour of a name, if it has one
+unfoldable pub namedColor : NamedColor → Option Color
+namedColor Unknown = none
+namedColor (Known c) = some c
 
 -- what the getters read from a value; `none` is an absent property
 unfoldable pub asColor : Option Value → Option Color
 asColor none = none
-asColor (some (identifier i)) = lookup i colorNames
+asColor (some (identifier i)) = namedColor (colorNamed i)
 asColor (some (string s)) = none
 asColor (some (color c)) = some c
 asColor (some (numbers xs)) = none

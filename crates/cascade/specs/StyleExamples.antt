@@ -13,7 +13,9 @@ use Rattle.sheet.specs.Sheet.{ObjectType, canvas, way, Rule, Value, identifier,
 use Rattle.cascade.specs.Map.{keep, andMap, orElse}
 use Rattle.cascade.specs.Clause.{star, defaultName, clauses}
 use Rattle.cascade.specs.Number.{negative, unsigned, afterDigits, spelt, wholeNumber, ranged, asInteger, whole}
-use Rattle.cascade.specs.Style.{butt, line, Style, josm, mapsMe, casingMultiplier, rgb, colorNames, asColor, asNumber, asIdentifier, asText, asDashes, asDelta, capNames, positionNames, isBackground, defaultZ, widthOrZero, baseWidth, casingOnly, fullCasing, textOf, styleFrom, styles}
+use Rattle.cascade.specs.Style.{butt, line, Style, josm, mapsMe, casingMultiplier, namedColor, asColor, asNumber, asIdentifier, asText, asDashes, asDelta, capNames, positionNames, isBackground, defaultZ, widthOrZero, baseWidth, casingOnly, fullCasing, textOf, styleFrom, styles}
+use Rattle.base.specs.Choice.{pick}
+use Rattle.color.specs.Named.{rgb, colorNamed, firstNamed}
 use Rattle.cascade.specs.Canvas.{firstColor, canvasFrom, canvasFillColor}
 
 abbrev number : Bytes → ℕ → Entry Value
@@ -95,7 +97,7 @@ pub styled :
     (entry defaultName (number (ascii "width") 3 ∷ []) ∷ entry (ascii "c") full ∷ [])
     ≡ entry defaultName plain ∷ entry (ascii "c") (fullStyle (whole 7) (whole 20)) ∷ [])
 unfolding same keep lookup andMap orElse negative unsigned afterDigits spelt wholeNumber ranged asInteger
-    casingMultiplier colorNames asColor
+    casingMultiplier namedColor colorNamed firstNamed pick asColor
     asNumber asIdentifier asText asDashes asDelta capNames positionNames isBackground defaultZ widthOrZero baseWidth casingOnly fullCasing
     textOf styleFrom styles add mul ofInt
 styled = (refl, refl)

@@ -6,6 +6,7 @@ use mathlib.Core.Option.{Option}
 use lib.Ieee.{Float}
 use Rattle.base.specs.Bytes.{Bytes}
 use Rattle.base.specs.Map.{Entry}
+use Rattle.color.specs.declared.Color.{Color}
 
 -- `*`, `canvas`, `meta`, `node`, `way` and `line`, `area`
 pub data ObjectType : Type 0 where
@@ -29,11 +30,6 @@ pub data Test : Type 0 where
   unary : UnaryTest → Bytes → Test
   text : TextTest → Bytes → Bytes → Test
   numeric : NumericTest → Bytes → Float → Test
-
-pub record Color : Type 0 where
-  pub r : ℕ
-  pub g : ℕ
-  pub b : ℕ
 
 pub data Value : Type 0 where
   identifier string : Bytes → Value

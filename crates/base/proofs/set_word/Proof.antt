@@ -18,7 +18,7 @@ returns : tie.Need-returns
 returns c = search needs
 
 returns-2 : tie.Need-returns-2
-returns-2 c = sym (set-out (c .before .args .t .now) (c .before .args .i) (c .before .args .v) (c .if1 .left))
+returns-2 c = sym (set-out (c .before .args .t .now) (c .before .args .at) (c .before .args .v) (c .if1 .left))
 
 pub set-word-spec : {M : Type 1} → statement M
 set-word-spec = tie.close (tie.spec mul-t slice-write-t same-length returns returns-2)
