@@ -117,25 +117,37 @@ pub record Part-is (s : Bytes) (at : ℕ) (r : Range) : Type 0 where
   pub in-text : r .to ≤ length s
   pub forward : at < r .from
 
-pub part-is : (s : Bytes) (at : ℕ) (r : Range) → partAt s at ≡ Found r → Part-is s at r
+-- the number and the bytes of a part that is read
+pub record Part-of (s : Bytes) (at : ℕ) (r : Range) : Type 0 where
+  pub count : ℕ
+  pub from : ℕ
+  pub number : numberAt s at 4294967295 ≡ Read count from
+  pub there : count ≤ length s - from
+  pub is : range from (from + count) ≡ r
+
+part-of : (s : Bytes) (at : ℕ) (r : Range) → partAt s at ≡ Found r → Part-of s at r
 unfolding partAt on-Number sizedOf pick
-part-is s at r e =
+part-of s at r e =
     by-number (numberAt s at 4294967295)
     (λ q. cut-found (rw q at e))
     (λ n f q.
-    let h = number-within s at 4294967295 n f q in
     by-test (leb f (length s))
     (λ t.
     by-test (leb n (length s - f))
     (λ u.
     let x : Found (range f (f + n)) ≡ Found r = rw (q, t, u) at e in
-    let y : range f (f + n) ≡ r = cc in
-    let l = leb-true n (length s - f) u in
-    let a : r .from ≡ f = sym (ap (λ (k : Range). k .from) y) in
-    let b : r .to ≡ f + n = sym (ap (λ (k : Range). k .to) y) in
-    record { order = omega arith; in-text = omega arith; forward = omega arith })
+    record { count = n; from = f; number = q; there = leb-true n (length s - f) u; is = cc })
     (λ u. cut-found (rw (q, t, u) at e)))
     (λ t. cut-found (rw (q, t) at e)))
+
+pub part-is : (s : Bytes) (at : ℕ) (r : Range) → partAt s at ≡ Found r → Part-is s at r
+part-is s at r e =
+    let o = part-of s at r e in
+    let h = number-within s at 4294967295 (o .count) (o .from) (o .number) in
+    let l = o .there in
+    let a : r .from ≡ o .from = sym (ap (λ (k : Range). k .from) (o .is)) in
+    let b : r .to ≡ o .from + o .count = sym (ap (λ (k : Range). k .to) (o .is)) in
+    record { order = omega arith; in-text = omega arith; forward = omega arith }
 
 -- reading what was written, at a place of a text, whatever follows
 pub part-read :
@@ -216,44 +228,32 @@ pub part-written :
     → AllBytes s
     → partAt s at ≡ Found r
     → drop at s ≡ sizedBytes (within r s) ++ drop (r .to) s
-unfolding partAt on-Number sizedOf pick sizedBytes
+unfolding sizedBytes
 part-written s at r a e =
-    by-number (numberAt s at 4294967295)
-    (λ q. cut-found (rw q at e))
-    (λ n f q.
-    by-test (leb f (length s))
-    (λ t.
-    by-test (leb n (length s - f))
-    (λ u.
-    let x : Found (range f (f + n)) ≡ Found r = rw (q, t, u) at e in
-    let y : range f (f + n) ≡ r = cc in
-    let l = leb-true n (length s - f) u in
-    let b = between-length s f n l in
-    number-written-at s at 4294967295 n f a q
-    ∙ ap₂ _++_ (ap groupOf (sym b)) (split s f n)
+    let o = part-of s at r e in
+    let n = o .count in
+    let f = o .from in
+    let b = between-length f n (o .there) in
+    number-written-at s at 4294967295 n f a (o .number)
+    ∙ ap₂ _++_ (ap groupOf (sym b)) (split f n)
     ∙ sym (append-assoc (groupOf (length (within (range f (f + n)) s))) (within (range f (f + n)) s) (drop (f + n) s))
-    ∙ ap (λ (k : Range). sizedBytes (within k s) ++ drop (k .to) s) y)
-    (λ u. cut-found (rw (q, t, u) at e)))
-    (λ t. cut-found (rw (q, t) at e)))
+    ∙ ap (λ (k : Range). sizedBytes (within k s) ++ drop (k .to) s) (o .is)
   where
-    between-length : (s : Bytes) (f n : ℕ) → n ≤ length s - f → length (within (range f (f + n)) s) ≡ n
-    between-length s f n l =
+    between-length : (f n : ℕ) → n ≤ length s - f → length (within (range f (f + n)) s) ≡ n
+    between-length f n l =
         let w : f + n - f ≡ n = omega arith in
         let d = length-drop f s in
         rw w (lib.Seq.length-take-le n (drop f s) (omega arith))
 
-    split : (s : Bytes) (f n : ℕ) → drop f s ≡ within (range f (f + n)) s ++ drop (f + n) s
-    split s f n =
+    split : (f n : ℕ) → drop f s ≡ within (range f (f + n)) s ++ drop (f + n) s
+    split f n =
         let w : f + n - f ≡ n = omega arith in
         rw w (sym (take-append-drop n (drop f s)) ∙ ap (λ (k : Bytes). take n (drop f s) ++ k) (drop-drop n f s))
 
-pub pair-written :
-    (s : Bytes) (at : ℕ) (a b : Range)
-    → AllBytes s
-    → pairAt s at ≡ Two a b
-    → drop at s ≡ pairBytes (named s (ranges a b)) ++ drop (b .to) s
-unfolding pairAt on-Part pairBytes
-pair-written s at a b all e =
+-- the two parts of a pair that is read
+pair-of : (s : Bytes) (at : ℕ) (a b : Range) → pairAt s at ≡ Two a b → (partAt s at ≡ Found a) × (partAt s (a .to) ≡ Found b)
+unfolding pairAt on-Part
+pair-of s at a b e =
     by-part (partAt s at)
     (λ q. broken-two (rw q at e))
     (λ r q.
@@ -263,10 +263,19 @@ pair-written s at a b all e =
     let x : Two r r₂ ≡ Two a b = rw (q, p) at e in
     let y : r ≡ a = cc in
     let z : r₂ ≡ b = cc in
-    part-written s at r all q
-    ∙ ap (λ (k : Bytes). sizedBytes (within r s) ++ k) (part-written s (r .to) r₂ all p)
-    ∙ sym (append-assoc (sizedBytes (within r s)) (sizedBytes (within r₂ s)) (drop (r₂ .to) s))
-    ∙ ap₂ (λ (k l : Range). (sizedBytes (within k s) ++ sizedBytes (within l s)) ++ drop (l .to) s) y z))
+    (q ∙ ap Found y, ap (λ (k : Range). partAt s (k .to)) (sym y) ∙ p ∙ ap Found z)))
+
+pub pair-written :
+    (s : Bytes) (at : ℕ) (a b : Range)
+    → AllBytes s
+    → pairAt s at ≡ Two a b
+    → drop at s ≡ pairBytes (named s (ranges a b)) ++ drop (b .to) s
+unfolding pairBytes
+pair-written s at a b all e =
+    let o = pair-of s at a b e in
+    part-written s at a all (o .0)
+    ∙ ap (λ (k : Bytes). sizedBytes (within a s) ++ k) (part-written s (a .to) b all (o .1))
+    ∙ sym (append-assoc (sizedBytes (within a s)) (sizedBytes (within b s)) (drop (b .to) s))
 
 pub pairs-written : (n : ℕ) (s : Bytes) (at p : ℕ) → AllBytes s → skipOf n s at ≡ At p → drop at s ≡ mapBytes (entriesAt n s at) ++ drop p s
 unfolding skipOf entriesAt pairsAt mapBytes on-Pair
@@ -286,18 +295,9 @@ pub record Pair-is (s : Bytes) (at : ℕ) (a b : Range) : Type 0 where
   pub value : Part-is s (a .to) b
 
 pub pair-is : (s : Bytes) (at : ℕ) (a b : Range) → pairAt s at ≡ Two a b → Pair-is s at a b
-unfolding pairAt on-Part
 pair-is s at a b e =
-    by-part (partAt s at)
-    (λ q. broken-two (rw q at e))
-    (λ r q.
-    by-part (partAt s (r .to))
-    (λ p. broken-two (rw (q, p) at e))
-    (λ r₂ p.
-    let x : Two r r₂ ≡ Two a b = rw (q, p) at e in
-    let y : r ≡ a = cc in
-    let z : r₂ ≡ b = cc in
-    record { key = rw (sym y) (part-is s at r q); value = rw (sym y, sym z) (part-is s (r .to) r₂ p) }))
+    let o = pair-of s at a b e in
+    record { key = part-is s at a (o .0); value = part-is s (a .to) b (o .1) }
 
 -- where so many pairs can be skipped, they are all read, and none ends past the text
 pub pairs-all : (n : ℕ) (s : Bytes) (at p : ℕ) → skipOf n s at ≡ At p → length (pairsAt n s at) ≡ n
