@@ -1,0 +1,6 @@
+pub mod Texts
+pub mod Scaled
+pub mod Saturate
+pub mod Layers
+pub mod Decimals
+pub mod Lookup
