@@ -12,7 +12,7 @@ use lib.Ieee.{Float, nan, inf, binary64}
 use Rattle.base.specs.Bytes.{Bytes, ascii, same}
 use Rattle.base.specs.Choice.{pick, by-test, clash}
 use Rattle.cascade.specs.Number.{isE, lowerCase, negative, unsigned, digits, afterDigits, spelt, wholeNumber, withSign, signedNumber, Decimal, decimals, afterDecimals, exponentOf, decimalFrom, decimalOf, valueOf, unsignedNumber, tagNumber}
-use Rattle.reader.specs.Digits.{grownFrom, wholeText, writtenPower, powerOf, decimal}
+use Rattle.reader.specs.Grown.{grownFrom, wholeText, writtenPower, powerOf, decimal}
 use Rattle.reader.specs.Told.{told}
 use Rattle.reader.specs.declared.Power.{Power}
 use Rattle.reader.specs.declared.Power.the-variants.{NoPower, Power10}

@@ -3,4 +3,6 @@ pub mod Scaled
 pub mod Saturate
 pub mod Layers
 pub mod Decimals
+pub mod Wholes
+pub mod Written
 pub mod Lookup

@@ -15,7 +15,7 @@ use borrow.Author.Tests.{lt-ltb, le-ltb, lt-leb, ltb-true, ltb-false, ne-eqb}
 use Rattle.base.specs.Bytes.{Bytes, same}
 use Rattle.base.specs.Choice.{pick, by-test}
 use Rattle.cascade.specs.Number.{negative, unsigned, spelt, wholeNumber, withSign, signedNumber, inI64, ranged, asInteger, scaled, outOfRange, valueOf}
-use Rattle.reader.specs.Digits.{grown, grownFrom, wholeText, decimal}
+use Rattle.reader.specs.Grown.{grown, grownFrom, wholeText, decimal}
 use Rattle.reader.specs.Told.{layerTold}
 use Rattle.reader.specs.declared.LayerTag.the-variants.{NoLayer, Layer}
 use Rattle.reader.specs.declared.LayerTag.{LayerTag}

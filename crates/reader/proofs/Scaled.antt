@@ -12,7 +12,7 @@ use lib.IntN.{ℤ, pos, negsuc, negℤ, _-ℤ_}
 use lib.Ieee.{Float, nan, binary64, mul, div}
 use borrow.Author.Tests.{lt-ltb, le-ltb, le-leb, lt-leb, eq-eqb, ne-eqb}
 use Rattle.cascade.specs.Number.{withSign, whole, signed, scaled, reads, outOfRange, valueOf}
-use Rattle.reader.specs.Digits.{decimal}
+use Rattle.reader.specs.Grown.{decimal}
 use Rattle.reader.specs.Told.{told}
 use Rattle.reader.specs.declared.TagNumber.{TagNumber}
 use Rattle.reader.specs.declared.TagNumber.the-variants.{Malformed, OutOfRange, Reads}

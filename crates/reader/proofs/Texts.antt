@@ -14,7 +14,7 @@ use Rattle.base.specs.Bytes.{Bytes, same}
 use Rattle.base.specs.Choice.{by-test}
 use Rattle.base.proofs.Compare.{same-lengths}
 use Rattle.cascade.specs.Number.{isMinus, isPlus, isDot, isDigit, lowerCase, negative, unsigned, digits, afterDigits, decimals, afterDecimals}
-use Rattle.reader.specs.Digits.{wholeText}
+use Rattle.reader.specs.Grown.{wholeText}
 
 -- ---- signs
 

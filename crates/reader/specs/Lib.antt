@@ -1,4 +1,4 @@
 pub mod Elim
 pub mod Told
 pub mod Tags
-pub mod Digits
+pub mod Grown

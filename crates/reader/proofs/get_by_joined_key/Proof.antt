@@ -11,12 +11,12 @@ use Rattle.reader.specs.Tags.{valueIn}
 use Rattle.reader.proofs.get_by_joined_key.Tie as tie
 
 abbrev Inv-loop : tie.InvT-loop
-Inv-loop s tags count first second left₀ place₀ left place =
-    valueIn s (first ++ (58 ∷ second)) (pairsAt left s place) ≡ valueIn s (first ++ (58 ∷ second))
+Inv-loop s tags count first second more₀ place₀ more place =
+    valueIn s (first ++ (58 ∷ second)) (pairsAt more s place) ≡ valueIn s (first ++ (58 ∷ second))
     (pairsAt count s tags)
 
 abbrev μ-loop : tie.MeasureT-loop
-μ-loop s tags count first second left₀ place₀ left place = left
+μ-loop s tags count first second more₀ place₀ more place = more
 
 loop-holds : tie.Need-loop-holds Inv-loop μ-loop
 loop-holds c = refl
@@ -33,7 +33,7 @@ returns c =
     (c .before .before .before .before .before .before .before .before .args .s .now)
     ((c .before .before .before .before .before .before .before .before .args .first .now) ++
     (58 ∷ (c .before .before .before .before .before .before .before .before .args .second .now)))
-    (c .before .before .before .before .loop .left) (c .before .before .before .before .loop .place)
+    (c .before .before .before .before .loop .more) (c .before .before .before .before .loop .place)
     (c .before .before .before .loop-test .taken)
     (via (c .before .before .pair-at .ensures) (c .enum-told .given .1))
     ∙ c .before .before .before .before .loop .inv
@@ -56,7 +56,7 @@ returns-2 c =
     (58 ∷
     (c .before .before .before .before .before .before .before .before .before .before .before .before .args
     .second .now)))
-    (c .before .before .before .before .before .before .before .before .loop .left)
+    (c .before .before .before .before .before .before .before .before .loop .more)
     (c .before .before .before .before .before .before .before .before .loop .place)
     (c .before .before .before .before .before .before .before .loop-test .taken) _ _
     (via
@@ -65,8 +65,8 @@ returns-2 c =
     (c .before .is-joined .ensures) (c .if1 .taken)
     ∙ c .before .before .before .before .before .before .before .before .loop .inv
 
-sub-left : tie.Need-sub-left Inv-loop μ-loop
-sub-left c = search needs
+sub-more : tie.Need-sub-more Inv-loop μ-loop
+sub-more c = search needs
 
 loop-less : tie.Need-loop-less Inv-loop μ-loop
 loop-less c = search needs
@@ -80,7 +80,7 @@ loop-again c =
     (58 ∷
     (c .before .before .before .before .before .before .before .before .before .before .before .before .args
     .second .now)))
-    (c .before .before .before .before .before .before .before .before .loop .left)
+    (c .before .before .before .before .before .before .before .before .loop .more)
     (c .before .before .before .before .before .before .before .before .loop .place)
     (c .before .before .before .before .before .before .before .loop-test .taken) _ _
     (via
@@ -93,7 +93,7 @@ returns-3 : tie.Need-returns-3 Inv-loop μ-loop
 returns-3 c =
     value-end (c .before .before .before .before .before .args .s .now)
     ((c .before .before .before .before .before .args .first .now) ++
-    (58 ∷ (c .before .before .before .before .before .args .second .now))) (c .before .loop .left)
+    (58 ∷ (c .before .before .before .before .before .args .second .now))) (c .before .loop .more)
     (c .before .loop .place) (c .loop-test .left)
     ∙ c .before .loop .inv
 
@@ -111,7 +111,7 @@ get-by-joined-key-spec =
     part-requires
     is-joined-requires
     returns-2
-    sub-left
+    sub-more
     loop-less
     loop-again
     returns-3)

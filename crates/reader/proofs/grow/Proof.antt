@@ -5,7 +5,7 @@ use borrow.Author.Needs.{needs}
 use borrow.Author.Tests.{lt-ltb, le-ltb}
 use Rattle.base.specs.Choice.{if-true, if-false}
 use Rattle.reader.proofs.grow.Statement.{statement}
-use Rattle.reader.specs.Digits.{grown}
+use Rattle.reader.specs.Grown.{grown}
 use Rattle.reader.proofs.grow.Tie as tie
 
 mul-result : tie.Need-mul-result

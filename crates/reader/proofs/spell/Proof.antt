@@ -6,7 +6,7 @@ use lib.ListN.{drop, length}
 use borrow.Author.Needs.{needs}
 use Rattle.reader.proofs.Saturate.{spell-end, spell-more}
 use Rattle.reader.proofs.spell.Statement.{statement}
-use Rattle.reader.specs.Digits.{grownFrom}
+use Rattle.reader.specs.Grown.{grownFrom}
 use Rattle.reader.proofs.spell.Tie as tie
 
 abbrev Inv-loop : tie.InvT-loop
