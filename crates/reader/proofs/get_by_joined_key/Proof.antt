@@ -1,0 +1,117 @@
+-- `reader::get_by_joined_key` meets its contract.
+use Prim.Native.Nat.{_+_, _-_}
+use mathlib.Core.List.{_∷_, _++_}
+use mathlib.Core.Path.{refl, _∙_, _≡_}
+use borrow.Author.Needs.{needs}
+use Rattle.base.specs.Choice.{via}
+use Rattle.group.specs.Pair.{pairsAt}
+use Rattle.reader.proofs.Lookup.{value-end, value-broken, value-here, value-next}
+use Rattle.reader.proofs.get_by_joined_key.Statement.{statement}
+use Rattle.reader.specs.Tags.{valueIn}
+use Rattle.reader.proofs.get_by_joined_key.Tie as tie
+
+abbrev Inv-loop : tie.InvT-loop
+Inv-loop s tags count first second more₀ place₀ more place =
+    valueIn s (first ++ (58 ∷ second)) (pairsAt more s place) ≡ valueIn s (first ++ (58 ∷ second))
+    (pairsAt count s tags)
+
+abbrev μ-loop : tie.MeasureT-loop
+μ-loop s tags count first second more₀ place₀ more place = more
+
+loop-holds : tie.Need-loop-holds Inv-loop μ-loop
+loop-holds c = refl
+
+pair-at-requires : tie.Need-pair-at-requires Inv-loop μ-loop
+pair-at-requires c κs = search needs
+
+enum-told : tie.Need-enum-told Inv-loop μ-loop
+enum-told c = search needs
+
+returns : tie.Need-returns Inv-loop μ-loop
+returns c =
+    value-broken
+    (c .before .before .before .before .before .before .before .before .args .s .now)
+    ((c .before .before .before .before .before .before .before .before .args .first .now) ++
+    (58 ∷ (c .before .before .before .before .before .before .before .before .args .second .now)))
+    (c .before .before .before .before .loop .more) (c .before .before .before .before .loop .place)
+    (c .before .before .before .loop-test .taken)
+    (via (c .before .before .pair-at .ensures) (c .enum-told .given .1))
+    ∙ c .before .before .before .before .loop .inv
+
+enum-known-a : tie.Need-enum-known-a Inv-loop μ-loop
+enum-known-a c = search needs
+
+part-requires : tie.Need-part-requires Inv-loop μ-loop
+part-requires c κs = search needs
+
+is-joined-requires : tie.Need-is-joined-requires Inv-loop μ-loop
+is-joined-requires c κs = search needs
+
+returns-2 : tie.Need-returns-2 Inv-loop μ-loop
+returns-2 c =
+    value-here
+    (c .before .before .before .before .before .before .before .before .before .before .before .before .args .s .now)
+    ((c .before .before .before .before .before .before .before .before .before .before .before .before .args .first .now)
+    ++
+    (58 ∷
+    (c .before .before .before .before .before .before .before .before .before .before .before .before .args
+    .second .now)))
+    (c .before .before .before .before .before .before .before .before .loop .more)
+    (c .before .before .before .before .before .before .before .before .loop .place)
+    (c .before .before .before .before .before .before .before .loop-test .taken) _ _
+    (via
+    (c .before .before .before .before .before .before .pair-at .ensures)
+    (c .before .before .before .before .a .given .1)) _ _ (c .before .before .part .ensures)
+    (c .before .is-joined .ensures) (c .if1 .taken)
+    ∙ c .before .before .before .before .before .before .before .before .loop .inv
+
+sub-more : tie.Need-sub-more Inv-loop μ-loop
+sub-more c = search needs
+
+loop-less : tie.Need-loop-less Inv-loop μ-loop
+loop-less c = search needs
+
+loop-again : tie.Need-loop-again Inv-loop μ-loop
+loop-again c =
+    value-next
+    (c .before .before .before .before .before .before .before .before .before .before .before .before .args .s .now)
+    ((c .before .before .before .before .before .before .before .before .before .before .before .before .args .first .now)
+    ++
+    (58 ∷
+    (c .before .before .before .before .before .before .before .before .before .before .before .before .args
+    .second .now)))
+    (c .before .before .before .before .before .before .before .before .loop .more)
+    (c .before .before .before .before .before .before .before .before .loop .place)
+    (c .before .before .before .before .before .before .before .loop-test .taken) _ _
+    (via
+    (c .before .before .before .before .before .before .pair-at .ensures)
+    (c .before .before .before .before .a .given .1)) _ _ (c .before .before .part .ensures)
+    (c .before .is-joined .ensures) (c .if1 .left)
+    ∙ c .before .before .before .before .before .before .before .before .loop .inv
+
+returns-3 : tie.Need-returns-3 Inv-loop μ-loop
+returns-3 c =
+    value-end (c .before .before .before .before .before .args .s .now)
+    ((c .before .before .before .before .before .args .first .now) ++
+    (58 ∷ (c .before .before .before .before .before .args .second .now))) (c .before .loop .more)
+    (c .before .loop .place) (c .loop-test .left)
+    ∙ c .before .loop .inv
+
+pub get-by-joined-key-spec : {M : Type 1} → statement M
+get-by-joined-key-spec =
+    tie.close
+    (tie.spec
+    Inv-loop
+    μ-loop
+    loop-holds
+    pair-at-requires
+    enum-told
+    returns
+    enum-known-a
+    part-requires
+    is-joined-requires
+    returns-2
+    sub-more
+    loop-less
+    loop-again
+    returns-3)

@@ -1,0 +1,4 @@
+pub mod Elim
+pub mod Told
+pub mod Tags
+pub mod Grown
