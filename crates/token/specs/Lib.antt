@@ -4,3 +4,4 @@ pub mod Signs
 pub mod Zoom
 pub mod Read
 pub mod Step
+pub mod Claims
