@@ -30,27 +30,95 @@ use Rattle.cursor.specs.declared.number.Sum.{Sum}
 use Rattle.cursor.proofs.Onward.{read, read-within, next-on}
 use Rattle.cursor.proofs.Positions.{positioned}
 use Rattle.cursor.proofs.Reaching.{
-  split-Next, split-Digit, split-Significant, reach-on, reach-within, reach-more, within-more, reach-one, reach-end,
-  within-0, within-1, Falls, turns-fall, SignificantReach, significant-reach,
+  split-Next,
+  split-Digit,
+  split-Significant,
+  reach-on,
+  reach-within,
+  reach-more,
+  within-more,
+  reach-one,
+  reach-end,
+  within-0,
+  within-1,
+  Falls,
+  turns-fall,
+  SignificantReach,
+  significant-reach,
 }
 use Rattle.token.specs.Claims.{Between, Inside, Consumed, StepsConsume, Stepped, first, then, Place, Told, PositionsTell}
 use Rattle.token.specs.Elim.{on-Sign, on-Quoted, on-DigitRead, on-Reading}
 use Rattle.token.specs.Read.{
-  range, identifierTurn, identifierEnd, readIdentifier, quotedTurn, readQuoted, readString, skipOne, readImport, readDirective,
-  directiveTurn, atDirectiveEnd, readAtDirective, isBareDot, finishNumber, firstDigit, readUnsigned, readSigned, readNumber,
-  readAfterMinus, readOther, startsNumber, readLong, readSingle, readToken,
+  range,
+  identifierTurn,
+  identifierEnd,
+  readIdentifier,
+  quotedTurn,
+  readQuoted,
+  readString,
+  skipOne,
+  readImport,
+  readDirective,
+  directiveTurn,
+  atDirectiveEnd,
+  readAtDirective,
+  isBareDot,
+  finishNumber,
+  firstDigit,
+  readUnsigned,
+  readSigned,
+  readNumber,
+  readAfterMinus,
+  readOther,
+  startsNumber,
+  readLong,
+  readSingle,
+  readToken,
 }
 use Rattle.token.specs.Reason.{
-  afterMinus, symbol, afterAt, importString, openString, nothingAfterSign, noNumberAfterSign, noFraction, badColor, zWanted,
-  emptyZoomRange, openComment, lexerError,
+  afterMinus,
+  symbol,
+  afterAt,
+  importString,
+  openString,
+  nothingAfterSign,
+  noNumberAfterSign,
+  noFraction,
+  badColor,
+  zWanted,
+  emptyZoomRange,
+  openComment,
+  lexerError,
 }
 use Rattle.token.specs.Signs.{
-  Spelled, twoLetter, oneLetter, isPair, firstPair, getTwoCharSimpleToken, firstLetter, getOneCharSimpleToken,
+  Spelled,
+  twoLetter,
+  oneLetter,
+  isPair,
+  firstPair,
+  getTwoCharSimpleToken,
+  firstLetter,
+  getOneCharSimpleToken,
 }
 use Rattle.token.specs.Step.{stepOf}
 use Rattle.token.specs.Zoom.{
-  readDigit, hex, hexAdded, hexTurn, readHexDigits, sixDigits, threeDigits, readColor, levelRead, readZoomLevel, hyphen,
-  readHyphen, isNoLevel, ranged, zoomRange, readLevels, readZoomRange,
+  readDigit,
+  hex,
+  hexAdded,
+  hexTurn,
+  readHexDigits,
+  sixDigits,
+  threeDigits,
+  readColor,
+  levelRead,
+  readZoomLevel,
+  hyphen,
+  readHyphen,
+  isNoLevel,
+  ranged,
+  zoomRange,
+  readLevels,
+  readZoomRange,
 }
 use Rattle.token.specs.declared.DigitRead.{DigitRead}
 use Rattle.token.specs.declared.DigitRead.the-variants.{NoneRead, OneRead}
@@ -562,8 +630,7 @@ told s c h r (End d) f =
 told s c h r (Took t line character d) x =
     let b = x .begun in
     let f = on (reach-more r (b .reach)) (b .char) in
-    let p = reach-more f (x .readied .reach) in
-    (
+    let p = reach-more f (x .readied .reach) in (
       record {
         at = x .first .at;
         behind = reach-on (on (b .reach) (b .char));

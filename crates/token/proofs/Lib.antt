@@ -1,3 +1,5 @@
 pub mod Pairs
 pub mod Digits
 pub mod Consuming
+pub mod All
+pub mod Works

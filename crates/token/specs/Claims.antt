@@ -12,9 +12,32 @@ use Rattle.token.specs.declared.Step.{Step}
 use Rattle.token.specs.declared.Step.the-variants.{Wrong, End, Took}
 use Rattle.token.specs.declared.Token.{Token}
 use Rattle.token.specs.declared.Token.the-variants.{
-  Import, Identifier, Text, Number, ZoomRange, ColorRef, Color, LeftParen, RightParen, LeftBracket, RightBracket,
-  LeftBrace, RightBrace, Equal, NotEqual, Less, Greater, LessOrEqual, GreaterOrEqual, RegexMatch, Bang, QuestionMark,
-  Colon, DoubleColon, SemiColon, Comma,
+  Import,
+  Identifier,
+  Text,
+  Number,
+  ZoomRange,
+  ColorRef,
+  Color,
+  LeftParen,
+  RightParen,
+  LeftBracket,
+  RightBracket,
+  LeftBrace,
+  RightBrace,
+  Equal,
+  NotEqual,
+  Less,
+  Greater,
+  LessOrEqual,
+  GreaterOrEqual,
+  RegexMatch,
+  Bang,
+  QuestionMark,
+  Colon,
+  DoubleColon,
+  SemiColon,
+  Comma,
 }
 
 -- a range of the text between two places

@@ -5,3 +5,5 @@ pub mod Zoom
 pub mod Read
 pub mod Step
 pub mod Claims
+pub mod Tokens
+pub mod Worked
