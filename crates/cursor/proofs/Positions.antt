@@ -9,6 +9,8 @@ use lib.ListN.{length}
 use borrow.Author.Tests.{lt-ltb}
 use Rattle.base.specs.Bytes.{Bytes}
 use Rattle.base.specs.Choice.{pick, by-test}
+use Rattle.utf8.specs.Utf8.{charAt}
+use Rattle.utf8.specs.declared.Char.the-variants.{Code}
 use Rattle.utf8.proofs.Rows.{char-within}
 use Rattle.cursor.specs.Cursor.{start, most, bump, passed}
 use Rattle.cursor.specs.Position.{Text, empty, next, newlines, since, lineOf, characterOf, Position}
@@ -109,3 +111,42 @@ pub positioned : (s : Bytes) {n : ℕ} {c : Cursor} → length s + n + 1 < most 
 positioned s h r =
     let x = known s h r in
     record { read = x .ks; text = x .text; on-line = x .line; on-character = x .character }
+
+-- from one place of the text to a later one, character by character
+data Onto (s : Bytes) : List ℕ → ℕ → List ℕ → ℕ → Type 0 where
+  stay : {ks : List ℕ} {at : ℕ} → Onto s ks at ks at
+  step :
+      {ks js : List ℕ} {at to : ℕ} (k w : ℕ)
+      → charAt s at ≡ Code k w
+      → Onto s (k ∷ ks) (at + w) js to
+      → Onto s ks at js to
+
+onto-more :
+    (s : Bytes) {ks js : List ℕ} {at to : ℕ} (k w : ℕ)
+    → Onto s ks at js to
+    → charAt s to ≡ Code k w
+    → Onto s ks at (k ∷ js) (to + w)
+onto-more s k w stay q = step k w q stay
+onto-more s k w (step j v p o) q = step j v p (onto-more s k w o q)
+
+text-onto : (s : Bytes) {ks : List ℕ} {at : ℕ} → Text s ks at → Onto s [] 0 ks at
+text-onto s empty = stay
+text-onto s (next {k = k} {w = w} t q) = onto-more s k w (text-onto s t) q
+
+onto-on : (s : Bytes) {ks js : List ℕ} {at to : ℕ} → Onto s ks at js to → at ≤ to
+onto-on s stay = omega arith
+onto-on s (step {at = at} k w q o) = let h = onto-on s o in omega arith
+
+onto-one : (s : Bytes) {ks js ms : List ℕ} {at to : ℕ} → Onto s ks at js to → Onto s ks at ms to → js ≡ ms
+onto-one s stay stay = refl
+onto-one s {at = at} stay (step k w q o) = let h = onto-on s o in let l = char-within s at k w q in absurd (omega arith)
+onto-one s {at = at} (step k w q o) stay = let h = onto-on s o in let l = char-within s at k w q in absurd (omega arith)
+onto-one s {ks = ks} {at = at} {to = to} (step {js = js} k w q o) (step {js = ms} j v p u) =
+    let e : Code k w ≡ Code j v = sym q ∙ p in
+    let a : k ≡ j = cc in
+    let b : w ≡ v = cc in
+    onto-one s o (rw (a, b) u)
+
+-- a place has its characters before it in one way only
+pub text-one : (s : Bytes) {ks js : List ℕ} {at : ℕ} → Text s ks at → Text s js at → ks ≡ js
+text-one s t u = onto-one s (text-onto s t) (text-onto s u)

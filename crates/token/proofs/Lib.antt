@@ -1,5 +1,6 @@
 pub mod Pairs
 pub mod Digits
+pub mod Colors
 pub mod Consuming
 pub mod All
 pub mod Works
