@@ -29,8 +29,8 @@ steps-enough s (suc n) (suc m) c p q = go (λ d f g. steps-enough s n m d f g) (
         ((d : Cursor) → length s - d .at < n → length s - d .at < m → tokensFrom n s d ≡ tokensFrom m s d)
         → (x : Step)
         → stepOf s c ≡ x
-        → on-Step x wrong (λ d. listed []) (λ t l k d. put (tokenAt t l k) (tokensFrom n s d))
-        ≡ on-Step x wrong (λ d. listed []) (λ t l k d. put (tokenAt t l k) (tokensFrom m s d))
+        → on-Step x wrong (λ d. listed [] (d .line) (d .character)) (λ t l k d. put (tokenAt t l k) (tokensFrom n s d))
+        ≡ on-Step x wrong (λ d. listed [] (d .line) (d .character)) (λ t l k d. put (tokenAt t l k) (tokensFrom m s d))
     go h (Wrong r l k) e = refl
     go h (End d) e = refl
     go h (Took t l k d) e =
@@ -44,6 +44,6 @@ steps-enough s (suc n) (suc m) c p q = go (λ d f g. steps-enough s n m d f g) (
 pub tokens-next :
     (s : Bytes) (c : Cursor)
     → tokensFrom (suc (length s)) s c
-    ≡ on-Step (stepOf s c) wrong (λ d. listed []) (λ t l k d. put (tokenAt t l k) (tokensFrom (suc (length s)) s d))
+    ≡ on-Step (stepOf s c) wrong (λ d. listed [] (d .line) (d .character)) (λ t l k d. put (tokenAt t l k) (tokensFrom (suc (length s)) s d))
 unfolding tokensFrom
 tokens-next s c = steps-enough s (suc (length s)) (suc (suc (length s))) c (omega arith) (omega arith)

@@ -18,7 +18,9 @@ added v d h = omega arith
 
 module _ (a b c : ℕ) (p : a < 16) (q : b < 16) (r : c < 16) where
   three : packed (a ∷ b ∷ c ∷ []) 0 ≡ (a * 16 + b) * 16 + c
-  three = rw (added 0 a (omega arith), added a b (omega arith), added (a * 16 + b) c (omega arith)) refl
+  three =
+      let first : hexAdded 0 a ≡ a = added 0 a (omega arith) ∙ omega arith in
+      rw (first, added a b (omega arith), added (a * 16 + b) c (omega arith)) refl
 
   pub three-digits : threeDigits (packed (a ∷ b ∷ c ∷ []) 0) ≡ rgb (16 * a + a) (16 * b + b) (16 * c + c)
   unfolding threeDigits
@@ -32,8 +34,7 @@ module _ (a b c : ℕ) (p : a < 16) (q : b < 16) (r : c < 16) where
   module _ (d e f : ℕ) (p′ : d < 16) (q′ : e < 16) (r′ : f < 16) where
     six : packed (a ∷ b ∷ c ∷ d ∷ e ∷ f ∷ []) 0 ≡ ((((a * 16 + b) * 16 + c) * 16 + d) * 16 + e) * 16 + f
     six =
-        rw
-        (
+        rw (
           three,
           added ((a * 16 + b) * 16 + c) d (omega arith),
           added (((a * 16 + b) * 16 + c) * 16 + d) e (omega arith),

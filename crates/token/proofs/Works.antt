@@ -23,4 +23,27 @@ use Rattle.token.specs.Worked.{cases, All, none, next}
 
 pub all-worked : All cases
 unfolding pick same turns on-Char fits gathered byRow charOf charAt among isWhiteSpace on-Next on-Digit on-Comment on-Significant bump passed nextChar canBeInAtDirective canStartIdentifier canContinueIdentifier digitValue toDigit skipLineComment skipBlockComment trySkipComment nextSignificantChar addDigit timesOdd powTen digitAdded takesDot readDigits size sign value on-ZoomLevel on-Step on-Reading on-Quoted on-Sign on-DigitRead lexerError isPair firstPair getTwoCharSimpleToken firstLetter getOneCharSimpleToken readDigit hexAdded readHexDigits sixDigits threeDigits readColor readZoomLevel readHyphen isNoLevel ranged zoomRange readLevels readZoomRange identifierEnd readIdentifier readQuoted readString skipOne readImport readDirective atDirectiveEnd readAtDirective isBareDot finishNumber readUnsigned readSigned readNumber readAfterMinus readOther startsNumber readLong readSingle readToken stepOf tokensFrom tokens ofBits ofInt add mul div neg
-all-worked = next refl (next refl (next refl (next refl (next refl (next refl (next refl (next refl (next refl (next refl (next refl (next refl (none))))))))))))
+all-worked =
+    next refl (
+    next refl (
+    next refl (
+    next refl (
+    next refl (
+    next refl (
+    next refl (
+    next refl (
+    next refl (
+    next refl (
+    next refl (
+    next refl (
+    next refl (
+    next refl (
+    next refl (
+    next refl (
+    next refl (
+    next refl (
+    next refl (
+    next refl (
+    next refl (
+    next refl (
+    next refl (none)))))))))))))))))))))))

@@ -22,17 +22,18 @@ tokenAt t l c = record { token = t; line = l; character = c }
 pub data Tokens : Type 0 where
   -- reason, line, character
   wrong : ℕ → ℕ → ℕ → Tokens
-  listed : List TokenAt → Tokens
+  -- and the line and character reached at the end
+  listed : List TokenAt → ℕ → ℕ → Tokens
 
 abbrev pub put : TokenAt → Tokens → Tokens
 put t (wrong r l c) = wrong r l c
-put t (listed ts) = listed (t ∷ ts)
+put t (listed ts l c) = listed (t ∷ ts) l c
 
 -- step by step, so many at most
 unfoldable pub tokensFrom : ℕ → Bytes → Cursor → Tokens
-tokensFrom zero s c = listed []
+tokensFrom zero s c = listed [] (c .line) (c .character)
 tokensFrom (suc n) s c =
-    on-Step (stepOf s c) wrong (λ d. listed []) λ t line character d.
+    on-Step (stepOf s c) wrong (λ d. listed [] (d .line) (d .character)) λ t line character d.
     put (tokenAt t line character) (tokensFrom n s d)
 
 -- a text has no more tokens than bytes
