@@ -47,7 +47,7 @@ use Rattle.cursor.proofs.Reaching.{
   significant-reach,
 }
 use Rattle.token.specs.Claims.{Between, Inside, Consumed, StepsConsume, Stepped, first, then, Place, Told, PositionsTell}
-use Rattle.token.specs.Elim.{on-Sign, on-Quoted, on-DigitRead, on-Reading}
+use Rattle.token.specs.Elim.{on-Sign, on-Quoted, on-DigitRead, on-PairRead, on-Reading}
 use Rattle.token.specs.Read.{
   range,
   identifierTurn,
@@ -73,6 +73,7 @@ use Rattle.token.specs.Read.{
   startsNumber,
   readLong,
   readSingle,
+  readPair,
   readToken,
 }
 use Rattle.token.specs.Reason.{
@@ -122,6 +123,8 @@ use Rattle.token.specs.Zoom.{
 }
 use Rattle.token.specs.declared.DigitRead.{DigitRead}
 use Rattle.token.specs.declared.DigitRead.the-variants.{NoneRead, OneRead}
+use Rattle.token.specs.declared.PairRead.{PairRead}
+use Rattle.token.specs.declared.PairRead.the-variants.{NoPair, Pair}
 use Rattle.token.specs.declared.Quoted.{Quoted}
 use Rattle.token.specs.declared.Quoted.the-variants.{Unclosed, Inside as Quotes}
 use Rattle.token.specs.declared.Reading.{Reading}
@@ -161,6 +164,15 @@ module _ {B : Type 0} (P : B → Type 0) where
   unfolding on-Sign
   split-Sign NoSign a g p q = p refl
   split-Sign (IsSign t) a g p q = q t refl
+
+  split-PairRead :
+      (x : PairRead) (a : B) (g : Token → Cursor → B)
+      → (x ≡ NoPair → P a)
+      → ((t : Token) (d : Cursor) → x ≡ Pair t d → P (g t d))
+      → P (on-PairRead x a g)
+  unfolding on-PairRead
+  split-PairRead NoPair a g p q = p refl
+  split-PairRead (Pair t d) a g p q = q t d refl
 
   split-Reading :
       (x : Reading) (f : ℕ → ℕ → ℕ → B) (g : Token → Cursor → B)
@@ -513,12 +525,23 @@ reads-single s from ch c h =
     split-Sign (Reads s c from) (getOneCharSimpleToken ch) _ _ (λ q. reads-long s from ch c h) λ t q.
     record { reach = here; inside = subst Bare q (one-bare ch) from (c .at) }
 
+abbrev Paired : Bytes → Cursor → ℕ → PairRead → Type 0
+Paired s c from NoPair = Unit {0}
+Paired s c from (Pair t d) = Readied s c from t d
+
+reads-pair : (s : Bytes) (from ch : ℕ) (c : Cursor) → Paired s c from (readPair s ch c)
+unfolding readPair
+reads-pair s from ch c =
+    split-Next (Paired s c from) (nextChar s c) _ _ (λ d q. tt) λ k d q.
+    split-Sign (Paired s c from) (getTwoCharSimpleToken ch k) _ _ (λ m. tt) λ t m.
+    record { reach = reach-one q; inside = subst Bare m (two-bare ch k) from (d .at) }
+
 reads-token : (s : Bytes) (from ch : ℕ) (c : Cursor) → from ≤ c .at → Reads s c from (readToken s from ch c)
 unfolding readToken
 reads-token s from ch c h =
-    split-Next (Reads s c from) (nextChar s c) _ _ (λ d q. reads-single s from ch c h) λ k d q.
-    split-Sign (Reads s c from) (getTwoCharSimpleToken ch k) _ _ (λ m. reads-single s from ch c h) λ t m.
-    record { reach = reach-one q; inside = subst Bare m (two-bare ch k) from (d .at) }
+    split-PairRead (Reads s c from) (readPair s ch c) _ _
+    (λ q. reads-single s from ch c h)
+    (λ t d q. subst (Paired s c from) q (reads-pair s from ch c))
 
 -- a token: its first character, and what was read from there on
 record Taken (s : Bytes) (c : Cursor) (t : Token) (line character : ℕ) (d : Cursor) : Type 0 where

@@ -74,6 +74,12 @@ pub enum Sign {
     IsSign(Token),
 }
 
+// No sign of two letters, or one and the place behind it.
+pub enum PairRead {
+    NoPair,
+    Pair(Token, Cursor),
+}
+
 // No digit, or its value and the place behind it.
 pub enum DigitRead {
     NoneRead,
