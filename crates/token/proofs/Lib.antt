@@ -2,5 +2,5 @@ pub mod Pairs
 pub mod Digits
 pub mod Colors
 pub mod Consuming
-pub mod All
+pub mod Enough
 pub mod Works
