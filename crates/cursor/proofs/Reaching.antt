@@ -17,7 +17,7 @@ use Rattle.utf8.specs.declared.Char.the-variants.{Bad, End, Code}
 use Rattle.cursor.specs.Cursor.{passed, nextChar}
 use Rattle.cursor.specs.Elim.{on-Next, on-Digit, on-Comment, on-Significant}
 use Rattle.cursor.specs.Blank.{lineTurn, skipLineComment, blockTurn, skipBlockComment, trySkipComment, significantTurn, nextSignificantChar}
-use Rattle.cursor.specs.Reach.{Reach, here, on, over, Within}
+use Rattle.cursor.specs.Reach.{Reach, here, on, over, Within, AtEnd, Begun}
 use Rattle.cursor.specs.declared.Cursor.{Cursor}
 use Rattle.cursor.specs.declared.Next.{Next}
 use Rattle.cursor.specs.declared.Next.the-variants.{Done, Got}
@@ -173,26 +173,13 @@ skipped-on s b c d k n r p q e m =
     let h = reach-on (skipped-reach s c d r e m .reach) in
     omega arith
 
--- the character that a token begins with: its place was reached, and it was read there
-pub record Begun (s : Bytes) (c : Cursor) (at k : ℕ) (d : Cursor) : Type 0 where
-  pub place : Cursor
-  pub reach : Reach s c 0 place
-  pub is : at ≡ place .at
-  pub char : nextChar s place ≡ Got k d
-
--- the end, read once or twice
-pub record AtEnd (s : Bytes) (c d : Cursor) : Type 0 where
-  pub ends : ℕ
-  pub few : ends ≤ 1
-  pub reach : Reach s c (suc ends) d
-
 abbrev pub SignificantReach : Bytes → Cursor → Significant → Type 0
 SignificantReach s c (Broken d) = Reach s c 1 d
 SignificantReach s c (Ended d) = AtEnd s c d
 SignificantReach s c (Found at k d) = Begun s c at k d
 
 -- what turns keep, of a loop that ends before its number of turns: each turn falls
-abbrev Falls : {S R : Type 0} → (S → Type 0) → (R → Type 0) → (S → ℕ) → ℕ → Turn S R → Type 0
+abbrev pub Falls : {S R : Type 0} → (S → Type 0) → (R → Type 0) → (S → ℕ) → ℕ → Turn S R → Type 0
 Falls P Q μ left (more x) = P x × (μ x < left)
 Falls P Q μ left (done r) = Q r
 
@@ -207,7 +194,7 @@ module _
     falls-after left rest h (more x) p = h x (p .0) (p .1)
     falls-after left rest h (done r) p = p
 
-    turns-fall : (n : ℕ) (x : S) → μ x < n → P x → Q (turns f d n x)
+    pub turns-fall : (n : ℕ) (x : S) → μ x < n → P x → Q (turns f d n x)
     unfolding turns
     turns-fall zero x l p = absurd (omega arith)
     turns-fall (suc n) x l p = falls-after (μ x) (turns f d n) (λ y q m. turns-fall n y (omega arith) q) (f x) (turn x p)

@@ -4,3 +4,4 @@ pub mod Class
 pub mod Blank
 pub mod Number
 pub mod Reach
+pub mod Position

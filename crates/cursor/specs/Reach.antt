@@ -16,3 +16,16 @@ pub record Within (most : ℕ) (s : Bytes) (c d : Cursor) : Type 0 where
   pub ends : ℕ
   pub few : ends ≤ most
   pub reach : Reach s c ends d
+
+-- the end, read once or twice
+pub record AtEnd (s : Bytes) (c d : Cursor) : Type 0 where
+  pub ends : ℕ
+  pub few : ends ≤ 1
+  pub reach : Reach s c (suc ends) d
+
+-- the character that a token begins with: its place was reached, and it was read there
+pub record Begun (s : Bytes) (c : Cursor) (at k : ℕ) (d : Cursor) : Type 0 where
+  pub place : Cursor
+  pub reach : Reach s c 0 place
+  pub is : at ≡ place .at
+  pub char : nextChar s place ≡ Got k d

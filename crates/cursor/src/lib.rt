@@ -12,6 +12,7 @@ pub mod blank;
 pub mod number;
 
 // The place behind what was read, the line and character of the last character read, and whether that ended a line.
+// specs/Position.antt has what line and character mean; proofs/Positions.antt proves it of every place that reading reaches.
 pub struct Cursor {
     pub at: usize,
     pub line: usize,
@@ -91,7 +92,8 @@ impl Cursor {
     }
 }
 
-// The character at a place, by char_at, but for the bytes that are characters.
+// The character at a place, by char_at, but for the bytes that are characters. The end goes through char_at too: called from
+// two places it stays a call, and this function is small enough to become part of each loop.
 fn peek(s: &[u8], at: usize) -> Char
     ensures { λ r. ⌜ r ≡ charAt (now (s .entry)) at ⌝ }
 {

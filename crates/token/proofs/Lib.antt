@@ -1,2 +1,6 @@
 pub mod Pairs
 pub mod Digits
+pub mod Colors
+pub mod Consuming
+pub mod Enough
+pub mod Works

@@ -2,6 +2,7 @@
 use mathlib.Core.Path.{_≡_, sym, ap, _∙_}
 use Prim.Native.Nat.{ℕ}
 use Rattle.token.specs.declared.DigitRead.{DigitRead}
+use Rattle.token.specs.declared.PairRead.{PairRead}
 use Rattle.token.specs.declared.Quoted.{Quoted}
 use Rattle.token.specs.declared.Reading.{Reading}
 use Rattle.token.specs.declared.Sign.{Sign}
@@ -13,6 +14,7 @@ use Rattle.token.specs.declared.Step.the-variants.{Wrong, End, Took}
 use Rattle.token.specs.declared.Reading.the-variants.{Failed, Ready}
 use Rattle.token.specs.declared.Quoted.the-variants.{Unclosed, Inside}
 use Rattle.token.specs.declared.Sign.the-variants.{NoSign, IsSign}
+use Rattle.token.specs.declared.PairRead.the-variants.{NoPair, Pair}
 use Rattle.token.specs.declared.DigitRead.the-variants.{NoneRead, OneRead}
 use Rattle.cursor.specs.declared.Cursor.{Cursor}
 use Rattle.base.specs.declared.Range.{Range}
@@ -81,6 +83,18 @@ Sign-NoSign x k0 k1 e h = h ∙ sym (ap (λ x. on-Sign x k0 k1) e)
 pub Sign-IsSign : {B : Type 0} (x : Sign) (k0 : B) (k1 : Token → B) {x0 : Token} {y : B} → x ≡ IsSign x0 → y ≡ k1 x0 → y ≡ on-Sign x k0 k1
 unfolding on-Sign
 Sign-IsSign x k0 k1 e h = h ∙ sym (ap (λ x. on-Sign x k0 k1) e)
+
+unfoldable pub on-PairRead : {B : Type 0} → PairRead → B → (Token → Cursor → B) → B
+on-PairRead NoPair k0 k1 = k0
+on-PairRead (Pair x0 x1) k0 k1 = k1 x0 x1
+
+pub PairRead-NoPair : {B : Type 0} (x : PairRead) (k0 : B) (k1 : Token → Cursor → B) {y : B} → x ≡ NoPair → y ≡ k0 → y ≡ on-PairRead x k0 k1
+unfolding on-PairRead
+PairRead-NoPair x k0 k1 e h = h ∙ sym (ap (λ x. on-PairRead x k0 k1) e)
+
+pub PairRead-Pair : {B : Type 0} (x : PairRead) (k0 : B) (k1 : Token → Cursor → B) {x0 : Token} {x1 : Cursor} {y : B} → x ≡ Pair x0 x1 → y ≡ k1 x0 x1 → y ≡ on-PairRead x k0 k1
+unfolding on-PairRead
+PairRead-Pair x k0 k1 e h = h ∙ sym (ap (λ x. on-PairRead x k0 k1) e)
 
 unfoldable pub on-DigitRead : {B : Type 0} → DigitRead → B → (ℕ → Cursor → B) → B
 on-DigitRead NoneRead k0 k1 = k0

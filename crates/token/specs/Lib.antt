@@ -4,3 +4,6 @@ pub mod Signs
 pub mod Zoom
 pub mod Read
 pub mod Step
+pub mod Claims
+pub mod Tokens
+pub mod Worked

@@ -18,7 +18,7 @@ use Rattle.cursor.specs.Number.{sum, value, readDigits}
 use Rattle.cursor.specs.declared.Cursor.{Cursor}
 use Rattle.cursor.specs.declared.number.Digits.{Digits}
 use Rattle.cursor.specs.declared.number.Sum.{Sum}
-use Rattle.token.specs.Elim.{on-Quoted, on-Sign}
+use Rattle.token.specs.Elim.{on-Quoted, on-Sign, on-PairRead}
 use Rattle.token.specs.Reason.{
   afterMinus,
   symbol,
@@ -32,6 +32,8 @@ use Rattle.token.specs.Reason.{
 }
 use Rattle.token.specs.Signs.{getTwoCharSimpleToken, getOneCharSimpleToken}
 use Rattle.token.specs.Zoom.{readColor, readZoomRange}
+use Rattle.token.specs.declared.PairRead.{PairRead}
+use Rattle.token.specs.declared.PairRead.the-variants.{NoPair, Pair}
 use Rattle.token.specs.declared.Quoted.{Quoted}
 use Rattle.token.specs.declared.Quoted.the-variants.{Unclosed, Inside}
 use Rattle.token.specs.declared.Reading.{Reading}
@@ -151,9 +153,13 @@ readLong s idx ch c =
 unfoldable pub readSingle : Bytes → ℕ → ℕ → Cursor → Reading
 readSingle s idx ch c = on-Sign (getOneCharSimpleToken ch) (readLong s idx ch c) λ token. Ready token c
 
+-- the sign of two letters that ch begins
+unfoldable pub readPair : Bytes → ℕ → Cursor → PairRead
+readPair s ch c =
+    on-Next (nextChar s c) (λ d. NoPair) λ next d.
+    on-Sign (getTwoCharSimpleToken ch next) NoPair λ token.
+    Pair token d
+
 -- the token that the character ch at the place idx begins; c is behind it
 unfoldable pub readToken : Bytes → ℕ → ℕ → Cursor → Reading
-readToken s idx ch c =
-    on-Next (nextChar s c) (λ d. readSingle s idx ch c) λ next d.
-    on-Sign (getTwoCharSimpleToken ch next) (readSingle s idx ch c) λ token.
-    Ready token d
+readToken s idx ch c = on-PairRead (readPair s ch c) (readSingle s idx ch c) λ token d. Ready token d

@@ -74,13 +74,20 @@ pub enum Sign {
     IsSign(Token),
 }
 
+// No sign of two letters, or one and the place behind it.
+pub enum PairRead {
+    NoPair,
+    Pair(Token, Cursor),
+}
+
 // No digit, or its value and the place behind it.
 pub enum DigitRead {
     NoneRead,
     OneRead(u8, Cursor),
 }
 
-// The next token from a cursor on. Total: bytes that are no character end the text as its end does.
+// The next token from a cursor on. Bytes that are no character end the text as its end does: texts are checked to be UTF-8 before.
+// specs/Claims.antt says what each step consumes and what its lines and characters mean; specs/Tokens.antt has all tokens of a text.
 pub fn next_token(s: &[u8], c: Cursor) -> Step
     ensures { λ r. ⌜ r ≡ stepOf (now (s .entry)) c ⌝ }
 {

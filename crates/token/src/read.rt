@@ -1,4 +1,5 @@
 // The readers of tokens, in the order of the Rust. Each takes the text and the place behind what was read.
+use crate::PairRead;
 use crate::Quoted;
 use crate::Reading;
 use crate::Sign;
@@ -31,18 +32,28 @@ use cursor::number::read_digits;
 use cursor::to_digit;
 use utf8::is_white_space;
 ghost use mathlib.Core.Path.{_≡_};
-ghost use Rattle.token.specs.Read.{readToken, readSingle, readLong, readOther, startsNumber, readAfterMinus, readAtDirective, atDirectiveEnd, readDirective, readImport, skipOne, readIdentifier, identifierEnd, readString, readQuoted, readNumber, readSigned, readUnsigned, firstDigit, finishNumber, isBareDot};
+ghost use Rattle.token.specs.Read.{readToken, readPair, readSingle, readLong, readOther, startsNumber, readAfterMinus, readAtDirective, atDirectiveEnd, readDirective, readImport, skipOne, readIdentifier, identifierEnd, readString, readQuoted, readNumber, readSigned, readUnsigned, firstDigit, finishNumber, isBareDot};
 ghost use Rattle.token.specs.Reason.{lexerError};
 
 // The token that the character ch at the place idx begins; c is behind it.
 pub fn read_token(s: &[u8], idx: usize, ch: u32, c: Cursor) -> Reading
     ensures { λ r. ⌜ r ≡ readToken (now (s .entry)) idx ch c ⌝ }
 {
+    match read_pair(s, ch, c) {
+        PairRead::NoPair => read_single(s, idx, ch, c),
+        PairRead::Pair(token, d) => Reading::Ready(token, d),
+    }
+}
+
+// The sign of two letters that ch begins.
+fn read_pair(s: &[u8], ch: u32, c: Cursor) -> PairRead
+    ensures { λ r. ⌜ r ≡ readPair (now (s .entry)) ch c ⌝ }
+{
     match c.next_char(s) {
-        Next::Done(_) => read_single(s, idx, ch, c),
+        Next::Done(_) => PairRead::NoPair,
         Next::Got(next_ch, d) => match get_two_char_simple_token(ch, next_ch) {
-            Sign::NoSign => read_single(s, idx, ch, c),
-            Sign::IsSign(token) => Reading::Ready(token, d),
+            Sign::NoSign => PairRead::NoPair,
+            Sign::IsSign(token) => PairRead::Pair(token, d),
         },
     }
 }

@@ -42,68 +42,34 @@ fn is_pair(p: [u8; 2], fst: u32, snd: u32) -> bool
 fn sign_of_pair(i: usize) -> Sign
     ensures { λ r. ⌜ r ≡ signOfPair i ⌝ }
 {
-    if i == 0 {
-        return Sign::IsSign(Token::NotEqual);
+    match i {
+        0 => Sign::IsSign(Token::NotEqual),
+        1 => Sign::IsSign(Token::LessOrEqual),
+        2 => Sign::IsSign(Token::GreaterOrEqual),
+        3 => Sign::IsSign(Token::RegexMatch),
+        4 => Sign::IsSign(Token::DoubleColon),
+        _ => Sign::NoSign,
     }
-    if i == 1 {
-        return Sign::IsSign(Token::LessOrEqual);
-    }
-    if i == 2 {
-        return Sign::IsSign(Token::GreaterOrEqual);
-    }
-    if i == 3 {
-        return Sign::IsSign(Token::RegexMatch);
-    }
-    if i == 4 {
-        return Sign::IsSign(Token::DoubleColon);
-    }
-    Sign::NoSign
 }
 
 pub fn get_one_char_simple_token(ch: u32) -> Sign
     ensures { λ r. ⌜ r ≡ getOneCharSimpleToken ch ⌝ }
 {
-    if ch == 40 {
-        return Sign::IsSign(Token::LeftParen);
+    match ch {
+        40 => Sign::IsSign(Token::LeftParen),
+        41 => Sign::IsSign(Token::RightParen),
+        91 => Sign::IsSign(Token::LeftBracket),
+        93 => Sign::IsSign(Token::RightBracket),
+        123 => Sign::IsSign(Token::LeftBrace),
+        125 => Sign::IsSign(Token::RightBrace),
+        61 => Sign::IsSign(Token::Equal),
+        60 => Sign::IsSign(Token::Less),
+        62 => Sign::IsSign(Token::Greater),
+        33 => Sign::IsSign(Token::Bang),
+        63 => Sign::IsSign(Token::QuestionMark),
+        58 => Sign::IsSign(Token::Colon),
+        59 => Sign::IsSign(Token::SemiColon),
+        44 => Sign::IsSign(Token::Comma),
+        _ => Sign::NoSign,
     }
-    if ch == 41 {
-        return Sign::IsSign(Token::RightParen);
-    }
-    if ch == 91 {
-        return Sign::IsSign(Token::LeftBracket);
-    }
-    if ch == 93 {
-        return Sign::IsSign(Token::RightBracket);
-    }
-    if ch == 123 {
-        return Sign::IsSign(Token::LeftBrace);
-    }
-    if ch == 125 {
-        return Sign::IsSign(Token::RightBrace);
-    }
-    if ch == 61 {
-        return Sign::IsSign(Token::Equal);
-    }
-    if ch == 60 {
-        return Sign::IsSign(Token::Less);
-    }
-    if ch == 62 {
-        return Sign::IsSign(Token::Greater);
-    }
-    if ch == 33 {
-        return Sign::IsSign(Token::Bang);
-    }
-    if ch == 63 {
-        return Sign::IsSign(Token::QuestionMark);
-    }
-    if ch == 58 {
-        return Sign::IsSign(Token::Colon);
-    }
-    if ch == 59 {
-        return Sign::IsSign(Token::SemiColon);
-    }
-    if ch == 44 {
-        return Sign::IsSign(Token::Comma);
-    }
-    Sign::NoSign
 }

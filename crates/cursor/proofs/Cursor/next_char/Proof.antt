@@ -1,59 +1,45 @@
-use Rattle.cursor.proofs.Onward.{char-fits}
+-- `cursor::Cursor::next_char` meets its contract.
 use mathlib.Core.Path.{refl}
-use Rattle.base.specs.Choice.{via}
-use Rattle.utf8.specs.Elim.{Char-Bad, Char-Code, Char-End}
-use Rattle.cursor.specs.Cursor.{nextChar}
 use borrow.Author.Needs.{needs}
+use Rattle.base.specs.Choice.{via}
 use Rattle.cursor.proofs.Cursor.next_char.Statement.{statement}
+use Rattle.cursor.proofs.Onward.{char-fits}
+use Rattle.cursor.specs.Cursor.{nextChar}
+use Rattle.utf8.specs.Elim.{Char-Bad, Char-Code, Char-End}
 use Rattle.cursor.proofs.Cursor.next_char.Tie as tie
-use Rattle.cursor.proofs.Cursor.next_char.Reads as reads
-use Rattle.cursor.proofs.Cursor.next_char.Lts as lts
-use Rattle.cursor.proofs.Cursor.passed.Reads as passed-reads
-use Rattle.cursor.proofs.peek.Reads as peek-reads
 
--- src/lib.rt:66:15
 peek-requires : tie.Need-peek-requires
 peek-requires c κs = search needs
 
--- src/lib.rt:67:37
 enum-told : tie.Need-enum-told
 enum-told c = search needs
 
--- src/lib.rt:67:37
 passed-requires : tie.Need-passed-requires
 passed-requires c κs = search needs
 
--- src/lib.rt:68:37
 enum-told-2 : tie.Need-enum-told-2
 enum-told-2 c = search needs
 
--- src/lib.rt:68:37
 passed-requires-2 : tie.Need-passed-requires-2
 passed-requires-2 c κs = search needs
 
--- src/lib.rt:69:24
 enum-known-k : tie.Need-enum-known-k
 enum-known-k c = search needs
 
--- src/lib.rt:69:58
 add-passed : tie.Need-add-passed
 add-passed c = search char-fits
 
--- src/lib.rt:69:46
 passed-requires-3 : tie.Need-passed-requires-3
 passed-requires-3 c κs = search needs
 
--- src/lib.rt:62:5
 returns : tie.Need-returns
 unfolding nextChar
 returns c = Char-Bad _ _ _ _ (via (c .before .before .before .peek .ensures) (c .before .enum-told .given .1)) (rw (c .passed .ensures) refl)
 
--- src/lib.rt:62:5
 returns-2 : tie.Need-returns-2
 unfolding nextChar
 returns-2 c = Char-End _ _ _ _ (via (c .before .before .before .peek .ensures) (c .before .enum-told2 .given .1)) (rw (c .passed2 .ensures) refl)
 
--- src/lib.rt:62:5
 returns-3 : tie.Need-returns-3
 unfolding nextChar
 returns-3 c = Char-Code _ _ _ _ (via (c .before .before .before .before .peek .ensures) (c .before .before .k .given .1)) (rw (c .passed3 .ensures) refl)
