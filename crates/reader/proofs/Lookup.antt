@@ -19,6 +19,9 @@ use Rattle.base.proofs.Compare.{same-lengths, rest-all}
 use Rattle.group.specs.Elim.{on-Pair}
 use Rattle.group.specs.Pair.{Ranges, ranges, pairAt, pairsAt, entriesAt, named}
 use Rattle.group.specs.declared.Pair.the-variants.{Broken, Two}
+use Rattle.entity.specs.Layout.{valueOf, tagsOf}
+use Rattle.entity.specs.declared.EntityRange.{EntityRange}
+use Rattle.cascade.specs.Match.{tag}
 use Rattle.reader.specs.Elim.{on-TagValue}
 use Rattle.reader.specs.Tags.{valueIn}
 use Rattle.reader.specs.declared.TagValue.the-variants.{Absent, Value}
@@ -97,3 +100,11 @@ module _ (s key : Bytes) where
       → lookup key (entriesAt n s at) ≡ on-TagValue (valueIn s key (pairsAt n s at)) none (λ r. some (within r s))
   unfolding entriesAt
   value-lookup n at = lookup-in (pairsAt n s at)
+
+  -- and what the theory has for a tag of an entity
+  pub tag-value :
+      (e : EntityRange)
+      → tag (valueOf s e) key
+      ≡ on-TagValue (valueIn s key (pairsAt (e .count) s (e .tags))) none (λ r. some (within r s))
+  unfolding valueOf tagsOf
+  tag-value e = value-lookup (e .count) (e .tags)

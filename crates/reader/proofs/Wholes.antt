@@ -186,7 +186,9 @@ module _ (x a : Float) (f : T (fits binary64 x)) (A : a ≡ unsignedOf x) where
         let v : HasValue (round binary64 false n 1) false (z .digits * up (z .power) / down (z .power)) 1 =
         rw (← c) (round-whole binary64 false n l) in
         let g : eq (round binary64 false n 1) a ≡ whole binary64 a =
-        (rw (z .is) (cut-eq (z .digits) (z .power) (z .small) (round binary64 false n 1) v ∙ sym (cut-whole (z .digits) (z .power) (z .small))))
+        (rw (z .is)
+        (cut-eq (z .digits) (z .power) (z .small) (round binary64 false n 1) v
+        ∙ sym (cut-whole (z .digits) (z .power) (z .small))))
         in
         let i : leb (toUnsigned 64 (unsignedOf x)) 9007199254740991 ≡ true =
         ap (λ (y : Float). leb (toUnsigned 64 y) 9007199254740991) (sym A)

@@ -20,7 +20,7 @@ use Rattle.sheet.specs.Digits.{hasMinus, sizeOf, isWhole, digitsIn, naturalDigi
 tenth : (n f : ℕ) → n < suc f → 10 ≤ n → n / 10 < f
 tenth n f h l = omega (arith, div-add-mod' n 10)
 
-bound : (f g n : ℕ) → n < f → n < g → digitsIn f n ≡ digitsIn g n
+bound : (f g n : ℕ) → n < f → n < g → digitsIn f (ltb n 10) n ≡ digitsIn g (ltb n 10) n
 unfolding digitsIn pick
 bound zero g n h k = absurd (omega arith)
 bound (suc f) zero n h k = absurd (omega arith)
@@ -42,7 +42,7 @@ natural-more n h =
     (ap (λ (r : Bytes). r ++ ((48 + n % 10) ∷ [])) (bound n (suc (n / 10)) (n / 10) (tenth n n (omega arith) h) (omega arith)))
 
 -- the digits spell the number
-spelt-in : (f n : ℕ) → n < f → spelt (digitsIn f n) ≡ n
+spelt-in : (f n : ℕ) → n < f → spelt (digitsIn f (ltb n 10) n) ≡ n
 unfolding digitsIn pick spelt
 spelt-in zero n h = absurd (omega arith)
 spelt-in (suc f) n h =
@@ -50,8 +50,14 @@ spelt-in (suc f) n h =
     (λ t. rw t (omega arith))
     (λ t.
     let l = ltb-false n 10 t in
-    let i : foldl (λ (n b : ℕ). n * 10 + (b - 48)) 0 (digitsIn f (n / 10)) ≡ n / 10 = spelt-in f (n / 10) (tenth n f h l) in
-    rw (t, foldl-append (λ (n b : ℕ). n * 10 + (b - 48)) 0 (digitsIn f (n / 10)) ((48 + n % 10) ∷ []), i, add-sub-cancel-left 48 (n % 10))
+    let i : foldl (λ (n b : ℕ). n * 10 + (b - 48)) 0 (digitsIn f (ltb (n / 10) 10) (n / 10)) ≡ n / 10 =
+    spelt-in f (n / 10) (tenth n f h l) in
+    rw (
+      t,
+      foldl-append (λ (n b : ℕ). n * 10 + (b - 48)) 0 (digitsIn f (ltb (n / 10) 10) (n / 10)) ((48 + n % 10) ∷ []),
+      i,
+      add-sub-cancel-left 48 (n % 10),
+    )
     (div-add-mod' n 10))
 
 pub natural-spelt : (n : ℕ) → spelt (naturalDigits n) ≡ n
