@@ -1,10 +1,10 @@
 -- The digits of a whole number, read as a tag number, are that number.
-use Prim.Native.Nat.{ℕ, zero, suc, _+_, _*_, _/_, _%_, _^_, _<_, _≤_}
+use Prim.Native.Nat.{ℕ, zero, suc, _+_, _/_, _%_, _^_, _<_, _≤_}
 use native.Mathlib.Nat.{mul-one}
 use native.Mathlib.Omega.{arith}
-use mathlib.Core.Path.{_≡_, refl, sym, _∙_, ap, ap₂, subst}
-use mathlib.Core.Bool.{Bool, true, false, _&&_, cond}
-use mathlib.Core.List.{List, [], _∷_, _++_, append-nil}
+use mathlib.Core.Path.{_≡_, refl, sym, _∙_, ap, ap₂}
+use mathlib.Core.Bool.{Bool, true, false, _&&_}
+use mathlib.Core.List.{[], _∷_, _++_, append-nil}
 use mathlib.Core.Option.{some}
 use lib.Dec.{T, eqb, leb, ltb}
 use lib.ListN.{length, length-append}
@@ -12,11 +12,11 @@ use lib.IntN.{pos}
 use lib.Ieee.{Float, binary64, round, neg, ofInt, fits}
 use lib.Ieee.Back.{round-whole, whole-unique}
 use lib.Ieee.Fits.{neg-fits, round-fits}
-use borrow.Author.Tests.{le-leb, lt-ltb, eq-eqb, ne-eqb, ltb-true, ltb-false, leb-true, eqb-true, eqb-false}
+use borrow.Author.Tests.{le-leb, lt-ltb, ltb-true, ltb-false, leb-true, eqb-true}
 use Rattle.base.specs.Bytes.{Bytes}
-use Rattle.base.specs.Choice.{pick, by-test, and-right}
+use Rattle.base.specs.Choice.{pick, by-test, and-left, and-right}
 use Rattle.cascade.specs.Number.{isDigit, spelt, signed, reads, valueOf, tagNumber}
-use Rattle.cascade.specs.NumberGrammar.{allDigits, Sign, absent, minus, Fraction, Exponent, Spells}
+use Rattle.cascade.specs.NumberGrammar.{allDigits, Sign, absent, minus, Spells}
 use Rattle.cascade.specs.NumberGrammarProof.{spelt-reads}
 use Rattle.cascade.specs.NumberLaws.{neg-value, times-nearest}
 use Rattle.sheet.specs.Digits.{hasMinus, unsignedOf, sizeOf, isWhole, digitsIn, naturalDigits, digitsOf}
@@ -36,7 +36,7 @@ all-more : (a : Bytes) (n : ℕ) → n < 10 → allDigits a ≡ true → allDigi
 unfolding allDigits
 all-more [] n h e = rw (digit-is n h)
 all-more (b ∷ a) n h e =
-    ap₂ _&&_ (Rattle.base.specs.Choice.and-left (isDigit b) (allDigits a) e)
+    ap₂ _&&_ (and-left (isDigit b) (allDigits a) e)
     (all-more a n h (and-right (isDigit b) (allDigits a) e))
 
 all-in : (f n : ℕ) → allDigits (digitsIn f (ltb n 10) n) ≡ true

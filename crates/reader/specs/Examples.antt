@@ -1,7 +1,6 @@
 -- Tag lookup, computed: two tags, the second key of two parts.
-use Prim.Native.Nat.{ℕ}
 use mathlib.Core.Path.{_≡_, refl}
-use mathlib.Core.List.{List, [], _∷_, _++_, map}
+use mathlib.Core.List.{[], _∷_, _++_, map}
 use Rattle.base.specs.Bytes.{Bytes, ascii, same}
 use Rattle.base.specs.Choice.{pick}
 use Rattle.group.specs.Elim.{on-Number, on-Part, on-Pair}

@@ -1,7 +1,7 @@
 -- Numbers of text tests, computed: which are whole, and their digits.
-use Prim.Native.Nat.{ℕ, _^_, _-_}
+use Prim.Native.Nat.{_^_, _-_}
 use mathlib.Core.Path.{_≡_, refl}
-use mathlib.Core.Bool.{Bool, true, false}
+use mathlib.Core.Bool.{false}
 use mathlib.Core.List.{List, [], _∷_, map}
 use lib.IntN.{pos, negsuc}
 use lib.Ieee.{Float, nan, inf, binary64, neg, round, ofInt, toUnsigned, whole, toBits}
