@@ -1,17 +1,17 @@
 -- From the parts of a decimal, as the code finds them, to what the theory reads.
-use Prim.Native.Nat.{ℕ, zero, suc, _+_, _^_, _<_}
+use Prim.Native.Nat.{ℕ, _+_, _^_, _<_}
 use native.Mathlib.Omega.{arith}
 use mathlib.Core.Path.{_≡_, refl, sym, _∙_, ap, ap₂}
 use mathlib.Core.Logic.{inl}
-use mathlib.Core.Bool.{Bool, true, false, _||_, cond}
-use mathlib.Core.List.{List, [], _∷_, _++_, map}
+use mathlib.Core.Bool.{Bool, true, false}
+use mathlib.Core.List.{[], _∷_, _++_, map}
 use mathlib.Core.Option.{Option, none, some}
 use lib.ListN.{length, getD, drop}
 use lib.IntN.{ℤ, pos, _-ℤ_}
-use lib.Ieee.{Float, nan, inf, binary64}
+use lib.Ieee.{Float, nan, inf}
 use Rattle.base.specs.Bytes.{Bytes, ascii, same}
-use Rattle.base.specs.Choice.{pick, by-test, clash}
-use Rattle.cascade.specs.Number.{isE, lowerCase, negative, unsigned, digits, afterDigits, spelt, wholeNumber, withSign, signedNumber, Decimal, decimals, afterDecimals, exponentOf, decimalFrom, decimalOf, valueOf, unsignedNumber, tagNumber}
+use Rattle.base.specs.Choice.{pick, by-test}
+use Rattle.cascade.specs.Number.{isE, lowerCase, negative, unsigned, digits, afterDigits, spelt, withSign, Decimal, decimals, afterDecimals, exponentOf, decimalFrom, decimalOf, valueOf, unsignedNumber, tagNumber}
 use Rattle.reader.specs.Grown.{grownFrom, wholeText, writtenPower, powerOf, decimal}
 use Rattle.reader.specs.Told.{told}
 use Rattle.reader.specs.declared.Power.{Power}

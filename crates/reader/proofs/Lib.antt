@@ -5,4 +5,5 @@ pub mod Layers
 pub mod Decimals
 pub mod Wholes
 pub mod Written
+pub mod Back
 pub mod Lookup

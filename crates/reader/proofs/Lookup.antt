@@ -6,7 +6,7 @@ use native.Mathlib.Numerals.{add-one}
 use mathlib.Core.Path.{_≡_, refl, sym, _∙_, ap}
 use mathlib.Core.Bool.{Bool, true, false, _&&_, and-false}
 use mathlib.Core.List.{List, [], _∷_, _++_, map}
-use mathlib.Core.Option.{Option, none, some}
+use mathlib.Core.Option.{none, some}
 use lib.Dec.{eqb}
 use lib.ListN.{length, getD, take, drop, length-append}
 use lib.Seq.{drop-cons}
@@ -19,6 +19,9 @@ use Rattle.base.proofs.Compare.{same-lengths, rest-all}
 use Rattle.group.specs.Elim.{on-Pair}
 use Rattle.group.specs.Pair.{Ranges, ranges, pairAt, pairsAt, entriesAt, named}
 use Rattle.group.specs.declared.Pair.the-variants.{Broken, Two}
+use Rattle.entity.specs.Layout.{valueOf, tagsOf}
+use Rattle.entity.specs.declared.EntityRange.{EntityRange}
+use Rattle.cascade.specs.Match.{tag}
 use Rattle.reader.specs.Elim.{on-TagValue}
 use Rattle.reader.specs.Tags.{valueIn}
 use Rattle.reader.specs.declared.TagValue.the-variants.{Absent, Value}
@@ -97,3 +100,11 @@ module _ (s key : Bytes) where
       → lookup key (entriesAt n s at) ≡ on-TagValue (valueIn s key (pairsAt n s at)) none (λ r. some (within r s))
   unfolding entriesAt
   value-lookup n at = lookup-in (pairsAt n s at)
+
+  -- and what the theory has for a tag of an entity
+  pub tag-value :
+      (e : EntityRange)
+      → tag (valueOf s e) key
+      ≡ on-TagValue (valueIn s key (pairsAt (e .count) s (e .tags))) none (λ r. some (within r s))
+  unfolding valueOf tagsOf
+  tag-value e = value-lookup (e .count) (e .tags)

@@ -2,22 +2,22 @@
 use Prim.Native.Nat.{ℕ, zero, suc, _+_, _-_, _*_, _^_, _<_, _≤_}
 use native.Mathlib.Omega.{arith}
 use mathlib.Core.Path.{_≡_, refl, sym, _∙_, ap, ap₂}
-use mathlib.Core.Logic.{_⊎_, inl, inr, ⊎-elim}
-use mathlib.Core.Bool.{Bool, true, false, cond}
-use mathlib.Core.List.{List, [], _∷_, _++_, foldl, foldl-append}
-use mathlib.Core.Option.{Option, none, some}
-use lib.Dec.{eqb, leb, ltb}
+use mathlib.Core.Logic.{_⊎_, inl, inr}
+use mathlib.Core.Bool.{Bool, true, false}
+use mathlib.Core.List.{[], _∷_, _++_, foldl, foldl-append}
+use mathlib.Core.Option.{none, some}
+use lib.Dec.{ltb}
 use lib.ListN.{length, getD, drop, drop-of-length-le}
 use lib.Seq.{drop-cons}
-use lib.IntN.{ℤ, pos, negsuc, negℤ, _-ℤ_}
+use lib.IntN.{ℤ, pos, negℤ, _-ℤ_}
 use native.Mathlib.Numerals.{add-one}
-use borrow.Author.Tests.{lt-ltb, le-ltb, lt-leb, ltb-true, ltb-false, ne-eqb}
-use Rattle.base.specs.Bytes.{Bytes, same}
-use Rattle.base.specs.Choice.{pick, by-test}
-use Rattle.cascade.specs.Number.{negative, unsigned, spelt, wholeNumber, withSign, signedNumber, inI64, ranged, asInteger, scaled, outOfRange, valueOf}
+use borrow.Author.Tests.{le-ltb, lt-leb, ltb-false, ne-eqb}
+use Rattle.base.specs.Bytes.{Bytes}
+use Rattle.base.specs.Choice.{pick, by-test, clash}
+use Rattle.cascade.specs.Number.{negative, unsigned, spelt, wholeNumber, withSign, ranged, asInteger, scaled, outOfRange, valueOf}
 use Rattle.reader.specs.Grown.{grown, grownFrom, wholeText, decimal}
 use Rattle.reader.specs.Told.{layerTold}
-use Rattle.reader.specs.declared.LayerTag.the-variants.{NoLayer, Layer}
+use Rattle.reader.specs.declared.LayerTag.the-variants.{NoLayer}
 use Rattle.reader.specs.declared.LayerTag.{LayerTag}
 use Rattle.reader.proofs.Scaled.{power-up, power-below}
 
@@ -78,7 +78,7 @@ near-layer t m n (inr g) = far-layer t m (g .0) ∙ sym (far-layer t n (g .1))
 
 pub whole-some : (s : Bytes) → wholeText s ≡ true → wholeNumber s ≡ some (spelt s)
 unfolding wholeText wholeNumber
-whole-some [] h = Rattle.base.specs.Choice.clash h refl
+whole-some [] h = clash h refl
 whole-some (b ∷ s) h = rw h
 
 pub whole-not : (s : Bytes) → wholeText s ≡ false → wholeNumber s ≡ none

@@ -1,21 +1,20 @@
 -- One operation on exact operands: the powers of ten, and the exponent as the code finds it.
-use Prim.Native.Nat.{ℕ, zero, suc, _+_, _-_, _*_, _^_, _<_, _≤_}
+use Prim.Native.Nat.{ℕ, zero, suc, _+_, _-_, _^_, _<_, _≤_}
 use native.Mathlib.Nat.{add-zero, sub-zero}
 use native.Mathlib.Omega.{arith}
 use mathlib.Core.Path.{_≡_, refl, sym, _∙_, ap}
-use mathlib.Core.Bool.{Bool, true, false, cond}
+use mathlib.Core.Bool.{Bool, true, false}
 use mathlib.Core.List.{List, [], _∷_}
 use mathlib.Core.Option.{some}
-use lib.Dec.{eqb, leb, ltb}
 use lib.ListN.{getD}
 use lib.IntN.{ℤ, pos, negsuc, negℤ, _-ℤ_}
 use lib.Ieee.{Float, nan, binary64, mul, div}
 use borrow.Author.Tests.{lt-ltb, le-ltb, le-leb, lt-leb, eq-eqb, ne-eqb}
-use Rattle.cascade.specs.Number.{withSign, whole, signed, scaled, reads, outOfRange, valueOf}
+use Rattle.cascade.specs.Number.{withSign, whole, signed, scaled, valueOf}
 use Rattle.reader.specs.Grown.{decimal}
 use Rattle.reader.specs.Told.{told}
 use Rattle.reader.specs.declared.TagNumber.{TagNumber}
-use Rattle.reader.specs.declared.TagNumber.the-variants.{Malformed, OutOfRange, Reads}
+use Rattle.reader.specs.declared.TagNumber.the-variants.{OutOfRange, Reads}
 
 -- 10 ^ j and on, so many of them
 unfoldable pub tensFrom : ℕ → ℕ → List Float

@@ -1,19 +1,19 @@
 -- Signs, digits, dots and words of a text, as the code goes through them.
-use Prim.Native.Nat.{ℕ, zero, suc, _+_, _-_, _<_, _≤_}
+use Prim.Native.Nat.{ℕ, _+_, _<_, _≤_}
 use native.Mathlib.Numerals.{add-one}
 use native.Mathlib.Nat.{add-zero}
 use native.Mathlib.Omega.{arith}
 use mathlib.Core.Path.{_≡_, refl, sym, _∙_, ap}
-use mathlib.Core.Bool.{Bool, true, false, _&&_, _||_, cond}
-use mathlib.Core.List.{List, [], _∷_, _++_, map}
-use lib.Dec.{eqb, leb}
+use mathlib.Core.Bool.{Bool, true, false}
+use mathlib.Core.List.{[], _∷_, _++_, map}
+use lib.Dec.{eqb}
 use lib.ListN.{length, getD, take, drop, drop-of-length-le, length-append, length-map}
 use lib.Seq.{drop-cons, take-append-seam, drop-append-seam}
-use borrow.Author.Tests.{eq-eqb, ne-eqb, eqb-true}
+use borrow.Author.Tests.{eq-eqb, ne-eqb}
 use Rattle.base.specs.Bytes.{Bytes, same}
 use Rattle.base.specs.Choice.{by-test}
 use Rattle.base.proofs.Compare.{same-lengths}
-use Rattle.cascade.specs.Number.{isMinus, isPlus, isDot, isDigit, lowerCase, negative, unsigned, digits, afterDigits, decimals, afterDecimals}
+use Rattle.cascade.specs.Number.{isDigit, lowerCase, negative, unsigned, digits, afterDigits, decimals, afterDecimals}
 use Rattle.reader.specs.Grown.{wholeText}
 
 -- ---- signs

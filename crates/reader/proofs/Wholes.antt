@@ -1,11 +1,11 @@
 -- Whole numbers: the sign bit, the size, and the test that the code makes.
-use Prim.Native.Nat.{ℕ, zero, suc, _+_, _-_, _*_, _/_, _%_, _^_, _<_, _≤_, min}
-use native.Mathlib.Nat.{mul-one, one-mul, mul-right-comm, div-add-mod', div-lt-iff-lt-mul, le-div-iff-mul-le, eq-of-mul-eq-mul-right}
+use Prim.Native.Nat.{ℕ, _+_, _-_, _*_, _/_, _%_, _^_, _<_, _≤_, min}
+use native.Mathlib.Nat.{mul-one, mul-right-comm, div-add-mod', div-lt-iff-lt-mul, le-div-iff-mul-le, eq-of-mul-eq-mul-right}
 use native.Mathlib.Omega.{arith}
-use mathlib.Core.Path.{_≡_, refl, sym, _∙_, ap, ap₂, subst}
-use mathlib.Core.Bool.{Bool, true, false, _&&_, _||_, not, cond, and-false, Bool·beq}
+use mathlib.Core.Path.{_≡_, refl, sym, _∙_, ap, subst}
+use mathlib.Core.Bool.{Bool, true, false, _&&_, not, and-true, and-false}
 use lib.Dec.{T, eqb, leb, ltb, le→leb}
-use lib.IntN.{ℤ, pos, negsuc}
+use lib.IntN.{ℤ, pos}
 use lib.Ieee.{Float, nan, inf, fin, binary64, up, down, size, round, neg, lt, eq, ne, ofInt, toUnsigned, whole, inFloat, inUnsigned, fits, isNan, ofBits, toBits}
 use lib.Ieee.Exact.{HasValue}
 use lib.Ieee.Back.{round-whole, float-back-unsigned}
@@ -135,10 +135,6 @@ module _ (m : ℕ) (e : ℤ) (h : m * up e < 2 ^ 53 * down e) where
   cut-eq (inf s) v = absurd v
   cut-eq (fin true k j) v = clash refl (v .0)
   cut-eq (fin false k j) v = rw (cut-level (k * up j) (down j) (down-pos j) (v .1)) (and-true (eqb (m * up e % down e) 0))
-    where
-      and-true : (b : Bool) → (b && true) ≡ b
-      and-true true = refl
-      and-true false = refl
 
   cut-whole : whole binary64 (fin false m e) ≡ eqb (m * up e % down e) 0
   unfolding whole
@@ -186,17 +182,15 @@ module _ (x a : Float) (f : T (fits binary64 x)) (A : a ≡ unsignedOf x) where
         let v : HasValue (round binary64 false n 1) false (z .digits * up (z .power) / down (z .power)) 1 =
         rw (← c) (round-whole binary64 false n l) in
         let g : eq (round binary64 false n 1) a ≡ whole binary64 a =
-        (rw (z .is) (cut-eq (z .digits) (z .power) (z .small) (round binary64 false n 1) v ∙ sym (cut-whole (z .digits) (z .power) (z .small))))
+        (rw (z .is)
+        (cut-eq (z .digits) (z .power) (z .small) (round binary64 false n 1) v
+        ∙ sym (cut-whole (z .digits) (z .power) (z .small))))
         in
         let i : leb (toUnsigned 64 (unsignedOf x)) 9007199254740991 ≡ true =
         ap (λ (y : Float). leb (toUnsigned 64 y) 9007199254740991) (sym A)
         ∙ ap (λ (j : ℕ). leb j 9007199254740991) (sym e)
         ∙ le-leb n 9007199254740991 k in
         g ∙ ap (whole binary64) A ∙ sym (ap (λ (b : Bool). whole binary64 (unsignedOf x) && b) i ∙ and-true (whole binary64 (unsignedOf x)))
-      where
-        and-true : (b : Bool) → (b && true) ≡ b
-        and-true true = refl
-        and-true false = refl
 
   pub whole-large : lt a most ≡ false → false ≡ isWhole x
   unfolding isWhole sizeOf whole lt ofBits toUnsigned

@@ -1,10 +1,10 @@
 -- Decimal digits: from the last one on as the code compares them, and what they spell.
 use Prim.Native.Nat.{ℕ, zero, suc, _+_, _-_, _*_, _/_, _%_, _<_, _≤_}
-use native.Mathlib.Nat.{div-lt-self, div-add-mod', add-sub-cancel-left}
+use native.Mathlib.Nat.{div-add-mod', add-sub-cancel-left}
 use native.Mathlib.Omega.{arith}
 use mathlib.Core.Path.{_≡_, refl, sym, _∙_, ap, ap₂}
-use mathlib.Core.Bool.{Bool, true, false, _&&_, and-false}
-use mathlib.Core.List.{List, [], _∷_, _++_, foldl, foldl-append}
+use mathlib.Core.Bool.{Bool, true, false, _&&_, and-true, and-false}
+use mathlib.Core.List.{[], _∷_, _++_, foldl, foldl-append}
 use lib.Dec.{eqb, ltb}
 use lib.ListN.{length, getD, take, drop, length-append, length-take}
 use lib.Seq.{take-suc}
@@ -20,7 +20,7 @@ use Rattle.sheet.specs.Digits.{hasMinus, sizeOf, isWhole, digitsIn, naturalDigi
 tenth : (n f : ℕ) → n < suc f → 10 ≤ n → n / 10 < f
 tenth n f h l = omega (arith, div-add-mod' n 10)
 
-bound : (f g n : ℕ) → n < f → n < g → digitsIn f n ≡ digitsIn g n
+bound : (f g n : ℕ) → n < f → n < g → digitsIn f (ltb n 10) n ≡ digitsIn g (ltb n 10) n
 unfolding digitsIn pick
 bound zero g n h k = absurd (omega arith)
 bound (suc f) zero n h k = absurd (omega arith)
@@ -42,7 +42,7 @@ natural-more n h =
     (ap (λ (r : Bytes). r ++ ((48 + n % 10) ∷ [])) (bound n (suc (n / 10)) (n / 10) (tenth n n (omega arith) h) (omega arith)))
 
 -- the digits spell the number
-spelt-in : (f n : ℕ) → n < f → spelt (digitsIn f n) ≡ n
+spelt-in : (f n : ℕ) → n < f → spelt (digitsIn f (ltb n 10) n) ≡ n
 unfolding digitsIn pick spelt
 spelt-in zero n h = absurd (omega arith)
 spelt-in (suc f) n h =
@@ -50,8 +50,14 @@ spelt-in (suc f) n h =
     (λ t. rw t (omega arith))
     (λ t.
     let l = ltb-false n 10 t in
-    let i : foldl (λ (n b : ℕ). n * 10 + (b - 48)) 0 (digitsIn f (n / 10)) ≡ n / 10 = spelt-in f (n / 10) (tenth n f h l) in
-    rw (t, foldl-append (λ (n b : ℕ). n * 10 + (b - 48)) 0 (digitsIn f (n / 10)) ((48 + n % 10) ∷ []), i, add-sub-cancel-left 48 (n % 10))
+    let i : foldl (λ (n b : ℕ). n * 10 + (b - 48)) 0 (digitsIn f (ltb (n / 10) 10) (n / 10)) ≡ n / 10 =
+    spelt-in f (n / 10) (tenth n f h l) in
+    rw (
+      t,
+      foldl-append (λ (n b : ℕ). n * 10 + (b - 48)) 0 (digitsIn f (ltb (n / 10) 10) (n / 10)) ((48 + n % 10) ∷ []),
+      i,
+      add-sub-cancel-left 48 (n % 10),
+    )
     (div-add-mod' n 10))
 
 pub natural-spelt : (n : ℕ) → spelt (naturalDigits n) ≡ n
@@ -62,11 +68,7 @@ natural-spelt n = spelt-in (suc n) n (omega arith)
 
 same-last : (a b : Bytes) (x y : ℕ) → same (a ++ (x ∷ [])) (b ++ (y ∷ [])) ≡ (same a b && eqb x y)
 unfolding same
-same-last [] [] x y = go (eqb x y)
-  where
-    go : (b : Bool) → (b && true) ≡ b
-    go true = refl
-    go false = refl
+same-last [] [] x y = and-true (eqb x y)
 same-last [] (c ∷ []) x y = and-false (eqb x c)
 same-last [] (c ∷ d ∷ b) x y = and-false (eqb x c)
 same-last (c ∷ []) [] x y = and-false (eqb c y)
@@ -101,11 +103,7 @@ module _ (v : Bytes) (i n : ℕ) where
           let z : i - 1 ≡ 0 = omega arith in
           sym
           (ap₂ same (last-of ∙ ap (λ (k : ℕ). take k v ++ (getD v (i - 1) 0 ∷ [])) z) (natural-one n s)
-          ∙ go (eqb (getD v (i - 1) 0) (48 + n)))
-        where
-          go : (b : Bool) → (b && true) ≡ b
-          go true = refl
-          go false = refl
+          ∙ and-true (eqb (getD v (i - 1) 0) (48 + n)))
 
       step :
           10 ≤ n
@@ -126,11 +124,7 @@ module _ (v : Bytes) (i n : ℕ) where
       natural-next s h =
           sym
           (step s
-          ∙ (rw (eq-eqb (getD v (i - 1) 0) (48 + n % 10) h) (go (same (take (i - 1) v) (naturalDigits (n / 10))))))
-        where
-          go : (b : Bool) → (b && true) ≡ b
-          go true = refl
-          go false = refl
+          ∙ (rw (eq-eqb (getD v (i - 1) 0) (48 + n % 10) h) (and-true (same (take (i - 1) v) (naturalDigits (n / 10))))))
 
 -- ---- with the sign
 

@@ -1,6 +1,6 @@
 -- The digits of a number as the code adds them up in 64 bits. proofs/Saturate.antt: this changes no answer.
 use Prim.Native.Nat.{ℕ, _+_, _-_, _*_}
-use mathlib.Core.Bool.{Bool, true, false}
+use mathlib.Core.Bool.{Bool, false}
 use mathlib.Core.List.{[], _∷_, foldl}
 use lib.Dec.{ltb}
 use lib.IntN.{ℤ}

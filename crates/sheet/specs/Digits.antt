@@ -1,6 +1,6 @@
 -- A number in a text test: which are whole, and their decimal digits as Rust prints them, "2", "-7", "0", "-0".
 use Prim.Native.Nat.{ℕ, zero, suc, _+_, _/_, _%_, _^_}
-use mathlib.Core.Bool.{Bool, _&&_, cond}
+use mathlib.Core.Bool.{Bool, true, false, _&&_}
 use mathlib.Core.List.{[], _∷_, _++_}
 use lib.Dec.{leb, ltb}
 use lib.Ieee.{Float, binary64, neg, toUnsigned, toBits, whole}
@@ -22,13 +22,15 @@ sizeOf x = toUnsigned 64 (unsignedOf x)
 unfoldable pub isWhole : Float → Bool
 isWhole x = whole binary64 (unsignedOf x) && leb (sizeOf x) 9007199254740991
 
--- the decimal digits of a whole number; the first argument bounds how many
-unfoldable pub digitsIn : ℕ → ℕ → Bytes
-digitsIn zero n = []
-digitsIn (suc f) n = pick (ltb n 10) ((48 + n) ∷ []) (digitsIn f (n / 10) ++ ((48 + n % 10) ∷ []))
+-- the decimal digits of a whole number, the last one behind those of its tenth; the first argument bounds how many, and the
+-- second says whether there is only one, so that no more are computed
+unfoldable pub digitsIn : ℕ → Bool → ℕ → Bytes
+digitsIn zero b n = []
+digitsIn (suc f) true n = (48 + n) ∷ []
+digitsIn (suc f) false n = digitsIn f (ltb (n / 10) 10) (n / 10) ++ ((48 + n % 10) ∷ [])
 
 unfoldable pub naturalDigits : ℕ → Bytes
-naturalDigits n = digitsIn (suc n) n
+naturalDigits n = digitsIn (suc n) (ltb n 10) n
 
 -- the digits of a whole number with its sign; of any other, none
 unfoldable pub digitsOf : Float → Bytes

@@ -25,7 +25,7 @@ pub data NumericTest : Type 0 where
   less lessOrEqual greater greaterOrEqual : NumericTest
 
 -- A test of the tag with this key. A text test holds the bytes that it compares with: where the sheet has a number there,
--- as in `[a=2.0]`, whoever makes the test puts the decimal digits of that whole f64 here, "2", and "-0" for `[a=-0]`.
+-- as in `[a=2.0]`, whoever makes the test puts the decimal digits of that whole f64 here (`digitsOf` of Digits.antt), "2", and "-0" for `[a=-0]`.
 pub data Test : Type 0 where
   unary : UnaryTest → Bytes → Test
   text : TextTest → Bytes → Bytes → Test

@@ -1,5 +1,6 @@
 -- `reader::get_by_joined_key` meets its contract.
 use Prim.Native.Nat.{_+_, _-_}
+use native.Mathlib.Omega.{arith}
 use mathlib.Core.List.{_∷_, _++_}
 use mathlib.Core.Path.{refl, _∙_, _≡_}
 use borrow.Author.Needs.{needs}
@@ -34,7 +35,7 @@ returns c =
     ((c .before .before .before .before .before .before .before .before .args .first .now) ++
     (58 ∷ (c .before .before .before .before .before .before .before .before .args .second .now)))
     (c .before .before .before .before .loop .more) (c .before .before .before .before .loop .place)
-    (c .before .before .before .loop-test .taken)
+    (omega arith)
     (via (c .before .before .pair-at .ensures) (c .enum-told .given .1))
     ∙ c .before .before .before .before .loop .inv
 
@@ -58,7 +59,7 @@ returns-2 c =
     .second .now)))
     (c .before .before .before .before .before .before .before .before .loop .more)
     (c .before .before .before .before .before .before .before .before .loop .place)
-    (c .before .before .before .before .before .before .before .loop-test .taken) _ _
+    (omega arith) _ _
     (via
     (c .before .before .before .before .before .before .pair-at .ensures)
     (c .before .before .before .before .a .given .1)) _ _ (c .before .before .part .ensures)
@@ -82,7 +83,7 @@ loop-again c =
     .second .now)))
     (c .before .before .before .before .before .before .before .before .loop .more)
     (c .before .before .before .before .before .before .before .before .loop .place)
-    (c .before .before .before .before .before .before .before .loop-test .taken) _ _
+    (omega arith) _ _
     (via
     (c .before .before .before .before .before .before .pair-at .ensures)
     (c .before .before .before .before .a .given .1)) _ _ (c .before .before .part .ensures)
@@ -94,7 +95,7 @@ returns-3 c =
     value-end (c .before .before .before .before .before .args .s .now)
     ((c .before .before .before .before .before .args .first .now) ++
     (58 ∷ (c .before .before .before .before .before .args .second .now))) (c .before .loop .more)
-    (c .before .loop .place) (c .loop-test .left)
+    (c .before .loop .place) (omega arith)
     ∙ c .before .loop .inv
 
 pub get-by-joined-key-spec : {M : Type 1} → statement M

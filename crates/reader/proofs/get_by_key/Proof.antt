@@ -1,5 +1,6 @@
 -- `reader::get_by_key` meets its contract.
 use Prim.Native.Nat.{_-_}
+use native.Mathlib.Omega.{arith}
 use mathlib.Core.Path.{refl, _∙_, _≡_}
 use borrow.Author.Needs.{needs}
 use Rattle.base.specs.Choice.{via}
@@ -30,7 +31,7 @@ returns c =
     (c .before .before .before .before .before .before .before .args .s .now)
     (c .before .before .before .before .before .before .before .args .key .now)
     (c .before .before .before .before .loop .left) (c .before .before .before .before .loop .place)
-    (c .before .before .before .loop-test .taken)
+    (omega arith)
     (via (c .before .before .pair-at .ensures) (c .enum-told .given .1))
     ∙ c .before .before .before .before .loop .inv
 
@@ -50,7 +51,7 @@ returns-2 c =
     (c .before .before .before .before .before .before .before .before .before .before .before .args .key .now)
     (c .before .before .before .before .before .before .before .before .loop .left)
     (c .before .before .before .before .before .before .before .before .loop .place)
-    (c .before .before .before .before .before .before .before .loop-test .taken) _ _
+    (omega arith) _ _
     (via
     (c .before .before .before .before .before .before .pair-at .ensures)
     (c .before .before .before .before .a .given .1)) _ _ (c .before .before .part .ensures)
@@ -70,7 +71,7 @@ loop-again c =
     (c .before .before .before .before .before .before .before .before .before .before .before .args .key .now)
     (c .before .before .before .before .before .before .before .before .loop .left)
     (c .before .before .before .before .before .before .before .before .loop .place)
-    (c .before .before .before .before .before .before .before .loop-test .taken) _ _
+    (omega arith) _ _
     (via
     (c .before .before .before .before .before .before .pair-at .ensures)
     (c .before .before .before .before .a .given .1)) _ _ (c .before .before .part .ensures)
@@ -80,7 +81,7 @@ loop-again c =
 returns-3 : tie.Need-returns-3 Inv-loop μ-loop
 returns-3 c =
     value-end (c .before .before .before .before .args .s .now) (c .before .before .before .before .args .key .now)
-    (c .before .loop .left) (c .before .loop .place) (c .loop-test .left)
+    (c .before .loop .left) (c .before .loop .place) (omega arith)
     ∙ c .before .loop .inv
 
 pub get-by-key-spec : {M : Type 1} → statement M

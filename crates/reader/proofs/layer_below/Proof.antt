@@ -1,4 +1,5 @@
 -- `reader::layer_below` meets its contract.
+use native.Mathlib.Omega.{arith}
 use borrow.Author.Needs.{needs}
 use Rattle.reader.proofs.Layers.{below-none, below-out, below-fits, below-some}
 use Rattle.reader.proofs.layer_below.Statement.{statement}
@@ -14,13 +15,13 @@ cast-t4 : tie.Need-cast-t4
 cast-t4 c = search needs
 
 sub-t5 : tie.Need-sub-t5
-sub-t5 c = below-fits (c .before .before .args .n) (c .before .if1 .left) (c .if2 .taken)
+sub-t5 c = below-fits (c .before .before .args .n) (c .before .if1 .left) (omega arith)
 
 returns-2 : tie.Need-returns-2
-returns-2 c = below-some (c .before .before .args .n) (c .before .if1 .left) (c .if2 .taken)
+returns-2 c = below-some (c .before .before .args .n) (c .before .if1 .left) (omega arith)
 
 returns-3 : tie.Need-returns-3
-returns-3 c = below-out (c .before .before .args .n) (c .if2 .left)
+returns-3 c = below-out (c .before .before .args .n) (omega arith)
 
 pub layer-below-spec : {M : Type 1} → statement M
 layer-below-spec = tie.close (tie.spec returns sub-t3 cast-t4 sub-t5 returns-2 returns-3)
