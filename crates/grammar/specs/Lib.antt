@@ -1,0 +1,10 @@
+pub mod Token
+pub mod View
+pub mod ViewLaws
+pub mod Reading
+pub mod Rules
+pub mod Input
+pub mod Reader
+pub mod Grammar
+pub mod Entries
+pub mod Laws
