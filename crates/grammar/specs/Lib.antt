@@ -8,3 +8,4 @@ pub mod Reader
 pub mod Grammar
 pub mod Entries
 pub mod Laws
+pub mod Sound
