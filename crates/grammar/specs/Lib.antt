@@ -9,3 +9,4 @@ pub mod Grammar
 pub mod Entries
 pub mod Laws
 pub mod Sound
+pub mod Complete
