@@ -10,3 +10,5 @@ pub mod Entries
 pub mod Laws
 pub mod Sound
 pub mod Complete
+pub mod Capacity
+pub mod CapacityLaws

@@ -169,7 +169,7 @@ rule-tints : (Γ : Colors) (r : Rule) → tints Γ (ruleEntries r) ≡ Γ
 unfolding tints ruleEntries
 rule-tints Γ r = selectors-tint Γ (r .selectors) (propertiesEntries (r .properties) ++ (ruleEntry ∷ [])) ∙ tints-append Γ (propertiesEntries (r .properties)) (ruleEntry ∷ []) ∙ properties-tint Γ (r .properties)
 
-reading-tints : (Γ : Colors) (js : Reading) → tints Γ (entriesOf js) ≡ colorsAfter Γ js
+pub reading-tints : (Γ : Colors) (js : Reading) → tints Γ (entriesOf js) ≡ colorsAfter Γ js
 unfolding tints entriesOf colorsAfter
 reading-tints Γ [] = refl
 reading-tints Γ (ruleItem r ∷ js) = tints-append Γ (ruleEntries r) (entriesOf js) ∙ ap (λ Γ. tints Γ (entriesOf js)) (rule-tints Γ r) ∙ reading-tints Γ js
