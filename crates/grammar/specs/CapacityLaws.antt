@@ -17,8 +17,9 @@ use Rattle.grammar.specs.Input.{Entry, ruleEntry, selectorEntry, testEnt
 use Rattle.grammar.specs.Reader.{load}
 use Rattle.grammar.specs.Entries.{entriesOf, one, count, tint, tints}
 use Rattle.grammar.specs.Capacity.{Tables, tables, empty, add, addAll, tablesOf, taken, stores, room, limited, Bounded, Fits}
-use Rattle.grammar.specs.Laws.{Gives, Puts, kept, _◂_, WholeTo}
-use Rattle.grammar.specs.Sound.{Sheet, reading-tints, load-sound}
+use Rattle.grammar.specs.Stream.{Gives, WholeTo, Sheet}
+use Rattle.grammar.specs.Laws.{Puts, kept, _◂_}
+use Rattle.grammar.specs.Sound.{reading-tints, load-sound}
 use Rattle.grammar.specs.Complete.{load-complete}
 
 -- ---- counting

@@ -18,8 +18,9 @@ use Rattle.grammar.specs.Input.{Entry, ruleEntry, selectorEntry, colorEn
 use Rattle.grammar.specs.Reader.{toBinaryStringTestType, toBinaryNumericTestType, widthIncrement, isColors, plainTest, bangTest, readTest, readNumberList, tokensToSemiColon, readSimpleEval, readPropertyValue, readProperties, readParts, readSelector, skipColors, readRule, before, parse, importFile, load}
 use Rattle.grammar.specs.Grammar.{IsName, single, double, IsKey, named, quotedKey, quotedDouble, eq, ne, lt, le, gt, ge, plainOperand, digitsOperand, IsTest, there, trueTag, falseTag, missing, untrue, compared, measured, IsNumbers, lastNumber, moreNumbers, IsDelta, zeroDelta, someDelta, IsValue, oneWord, twoWords, aString, aColor, reference, list, eval, IsProperties, closed, assign, HasParts, nothing, zooms, tested, class, layer, IsSelector, typed, IsSkipped, stop, over, IsRule, body, auxiliary, lastSelector, selectorThen, IsSheet, finish, aRule, defined, dropped, imported}
 use Rattle.grammar.specs.Entries.{testEntries, testsEntries, numbersEntries, valueEntries, propertiesEntries, selectorsEntries, ruleEntries, entriesOf, tint}
-use Rattle.grammar.specs.Laws.{Gives, here, _▸_, Puts, kept, _◂_, WholeTo, Whole, uncons, split, unput, apart}
-use Rattle.grammar.specs.Sound.{added, added-is, ender, TextOf, Sheet, entries-append, reading-colors, rule-colors}
+use Rattle.grammar.specs.Stream.{Gives, here, _▸_, WholeTo, Sheet}
+use Rattle.grammar.specs.Laws.{Puts, kept, _◂_, uncons, split, unput, apart}
+use Rattle.grammar.specs.Sound.{added, added-is, ender, entries-append, reading-colors, rule-colors}
 
 same-is : (a b : Bytes) → a ≡ b → same a b ≡ true
 same-is a b e = rw e (same-refl b)

@@ -71,6 +71,10 @@ pub record Input (C T P R : Type 0) : Type 0 where
   pub countable : Float → Bool
   pub store : Store T
 
+-- the same texts, with other tables
+abbrev pub over : {C T T′ P R : Type 0} → Input C T P R → Store T′ → Input C T′ P R
+over i s = record { next = i .next; reached = i .reached; why = i .why; text = i .text; fuel = i .fuel; countable = i .countable; store = s }
+
 pub data Answer (A C T R : Type 0) : Type 0 where
   refused : R → T → Answer A C T R
   read : A → C → T → Answer A C T R

@@ -11,35 +11,23 @@ use Rattle.grammar.specs.View.{isSign, on-sign, on-import, on-identifier
 use Rattle.grammar.specs.ViewLaws.{test-holds, sign-holds, import-holds, identifier-holds, string-holds, colorRef-holds, number-holds, zoomRange-holds, color-holds}
 use Rattle.grammar.specs.Input.{Entry, Next, broken, end, token, Input, Answer, refused, read, on-next, on-option, after, keep}
 use Rattle.grammar.specs.Reader.{readMandatoryToken, expectSimpleToken, readIdentifier}
+use Rattle.grammar.specs.Stream.{Gives, here, _▸_}
 
 module _ {C T P R : Type 0} (i : Input C T P R) where
-  infixr 60 _▸_
   infixr 60 _◂_
-  -- from c the text gives the tokens p, and stands at e
-  pub data Gives : C → List Token → C → Type 0 where
-    here : {c : C} → Gives c [] c
-    _▸_ : {c d e : C} {o : P} {t : Token} {p : List Token} → i .next c ≡ token t o d → Gives d p e → Gives c (t ∷ p) e
-
   -- the tables τ take the entries es, and are then υ
   pub data Puts : T → List Entry → T → Type 0 where
     kept : {τ : T} → Puts τ [] τ
     _◂_ : {τ υ φ : T} {e : Entry} {es : List Entry} → i .store .put e τ ≡ some υ → Puts υ es φ → Puts τ (e ∷ es) φ
 
-  -- from c to the end of the text, which is read at f
-  abbrev pub WholeTo : C → List Token → C → Type 0
-  WholeTo c p f = (e : C) × (Gives c p e × (i .next e ≡ end f))
-
-  abbrev pub Whole : C → List Token → Type 0
-  Whole c p = (f : C) × WholeTo c p f
-
-  pub join : {p q : List Token} {c d e : C} → Gives c p d → Gives d q e → Gives c (p ++ q) e
+  pub join : {p q : List Token} {c d e : C} → Gives i c p d → Gives i d q e → Gives i c (p ++ q) e
   join here g = g
   join (e ▸ h) g = e ▸ join h g
 
-  pub uncons : {c e : C} {t : Token} {p : List Token} → Gives c (t ∷ p) e → (d : C) × ((o : P) × ((i .next c ≡ token t o d) × Gives d p e))
+  pub uncons : {c e : C} {t : Token} {p : List Token} → Gives i c (t ∷ p) e → (d : C) × ((o : P) × ((i .next c ≡ token t o d) × Gives i d p e))
   uncons (e ▸ h) = (_, (_, (e, h)))
 
-  pub split : (p : List Token) {q : List Token} {c e : C} → Gives c (p ++ q) e → (d : C) × (Gives c p d × Gives d q e)
+  pub split : (p : List Token) {q : List Token} {c e : C} → Gives i c (p ++ q) e → (d : C) × (Gives i c p d × Gives i d q e)
   split [] {c = c} h = (c, (here, h))
   split (t ∷ p) h =
       let c = uncons h in
@@ -65,7 +53,7 @@ module _ {C T P R : Type 0} (i : Input C T P R) where
 
   -- a phrase that X reads as x stands between c and d, and its entries E x take the tables from τ to υ
   abbrev pub Phrase : {A : Type 0} → (List Token → A → Type 0) → (A → List Entry) → C → T → A → C → T → Type 0
-  Phrase X E c τ x d υ = (p : List Token) × (Gives c p d × (Puts τ (E x) υ × X p x))
+  Phrase X E c τ x d υ = (p : List Token) × (Gives i c p d × (Puts τ (E x) υ × X p x))
 
 module _ {A C T R : Type 0} (S : A → C → T → Type 0) where
   abbrev pub Sound : Answer A C T R → Type 0

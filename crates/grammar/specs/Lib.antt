@@ -7,8 +7,11 @@ pub mod Input
 pub mod Reader
 pub mod Grammar
 pub mod Entries
+pub mod Stream
 pub mod Laws
 pub mod Sound
 pub mod Complete
 pub mod Capacity
 pub mod CapacityLaws
+pub mod Accepted
+pub mod AcceptedProof

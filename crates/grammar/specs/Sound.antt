@@ -17,7 +17,8 @@ use Rattle.grammar.specs.Input.{Entry, ruleEntry, selectorEntry, testEnt
 use Rattle.grammar.specs.Reader.{toBinaryStringTestType, toBinaryNumericTestType, want, wantWord, wantString, suffix, widthIncrement, isColors, readOperand, readNumber, plainTest, bangTest, readKey, readTest, readNumberList, tokensToSemiColon, readSimpleEval, readPropertyValue, readProperties, readParts, readSelector, skipColors, readRule, definition, keepColor, readColorDef, parse, importFile, load}
 use Rattle.grammar.specs.Grammar.{IsName, single, double, IsKey, named, quotedKey, quotedDouble, IsEquality, eq, ne, IsComparison, lt, le, gt, ge, IsOperand, plainOperand, digitsOperand, IsTest, there, trueTag, falseTag, missing, untrue, compared, measured, IsNumbers, lastNumber, moreNumbers, IsDelta, zeroDelta, someDelta, IsValue, oneWord, twoWords, aString, aColor, reference, list, eval, IsProperties, closed, assign, HasParts, nothing, zooms, tested, class, layer, IsSelector, typed, IsSkipped, stop, over, IsRule, body, auxiliary, lastSelector, selectorThen, IsSheet, finish, aRule, defined, dropped, imported}
 use Rattle.grammar.specs.Entries.{testEntries, testsEntries, numbersEntries, valueEntries, propertiesEntries, selectorsEntries, ruleEntries, entriesOf, tint, tints}
-use Rattle.grammar.specs.Laws.{Gives, here, _▸_, Puts, kept, _◂_, WholeTo, Whole, join, both, found, Phrase, Sound, refused-sound, read-sound, next-sound, option-sound, test-sound, sign-sound, import-sound, identifier-sound, string-sound, colorRef-sound, number-sound, color-sound, zoom-sound, after-sound, token-sound, expect-sound, name-sound, keep-sound}
+use Rattle.grammar.specs.Stream.{Gives, here, _▸_, WholeTo, TextOf, Sheet}
+use Rattle.grammar.specs.Laws.{Puts, kept, _◂_, join, both, found, Phrase, Sound, refused-sound, read-sound, next-sound, option-sound, test-sound, sign-sound, import-sound, identifier-sound, string-sound, colorRef-sound, number-sound, color-sound, zoom-sound, after-sound, token-sound, expect-sound, name-sound, keep-sound}
 
 -- ---- what an option holds
 
@@ -375,17 +376,11 @@ module _ {C T P R : Type 0} (i : Input C T P R) where
 
   -- ---- sheets
 
-  abbrev pub TextOf : Bytes → List Token → Type 0
-  TextOf n q = (c : C) × ((i .text n ≡ some c) × Whole i c q)
-
-  abbrev pub Sheet : ℕ → Colors → List Token → Reading → Type 0
-  Sheet = IsSheet (i .countable) TextOf
-
   abbrev Sheets : ℕ → C → T → Reading → C → T → Type 0
-  Sheets d c τ js f υ = (p : List Token) × (WholeTo i c p f × (Puts i τ (entriesOf js) υ × Sheet d (i .store .colors τ) p js))
+  Sheets d c τ js f υ = (p : List Token) × (WholeTo i c p f × (Puts i τ (entriesOf js) υ × Sheet i d (i .store .colors τ) p js))
 
   abbrev Imports : ℕ → Name → T → Reading → C → T → Type 0
-  Imports d n τ js e υ = (k : ℕ) × ((d ≡ suc k) × ((q : List Token) × (TextOf (n .bytes) q × (Puts i τ (entriesOf js) υ × Sheet k (i .store .colors τ) q js))))
+  Imports d n τ js e υ = (k : ℕ) × ((d ≡ suc k) × ((q : List Token) × (TextOf i (n .bytes) q × (Puts i τ (entriesOf js) υ × Sheet i k (i .store .colors τ) q js))))
 
   -- tokens before a text
   further : {p q : List Token} {c d f : C} → Gives i c p d → WholeTo i d q f → WholeTo i c (p ++ q) f
@@ -394,11 +389,11 @@ module _ {C T P R : Type 0} (i : Input C T P R) where
   entries-both : (js ks : Reading) {τ υ φ : T} → Puts i τ (entriesOf js) υ → Puts i υ (entriesOf ks) φ → Puts i τ (entriesOf (js ++ ks)) φ
   entries-both js ks m l = rw (entries-append js ks) (both i m l)
 
-  imports : {d : ℕ} (js : Reading) (τ υ : T) (e : C) (n : Name) → Imports d n τ js e υ → {p : List Token} {ks : Reading} → Sheet d (colorsAfter (i .store .colors τ) js) p ks → Sheet d (i .store .colors τ) (import n ∷ sign semiColon ∷ p) (js ++ ks)
+  imports : {d : ℕ} (js : Reading) (τ υ : T) (e : C) (n : Name) → Imports d n τ js e υ → {p : List Token} {ks : Reading} → Sheet i d (colorsAfter (i .store .colors τ) js) p ks → Sheet i d (i .store .colors τ) (import n ∷ sign semiColon ∷ p) (js ++ ks)
   imports js τ υ e n h g = rw (h .1 .0) (imported n (h .1 .1 .1 .0) (h .1 .1 .1 .1 .1) (rw (h .1 .0) at g))
 
   -- what a definition puts in front of the rest
-  definition-is : {d : ℕ} {Γ : Colors} {p : List Token} {js : Reading} (n : Name) (t : Token) → Sheet d (colorsAfter Γ (definition i n t)) p js → Sheet d Γ (colorRef n ∷ sign colon ∷ t ∷ sign semiColon ∷ p) (definition i n t ++ js)
+  definition-is : {d : ℕ} {Γ : Colors} {p : List Token} {js : Reading} (n : Name) (t : Token) → Sheet i d (colorsAfter Γ (definition i n t)) p js → Sheet i d Γ (colorRef n ∷ sign colon ∷ t ∷ sign semiColon ∷ p) (definition i n t ++ js)
   unfolding colorOf on-color on-option colorsAfter
   definition-is n (color c) h = defined n c h
   definition-is n (import a) h = dropped n _ refl h
@@ -425,10 +420,10 @@ module _ {C T P R : Type 0} (i : Input C T P R) where
   color-reads n c τ = expect-sound _ i colon c τ λ o v f. token-sound _ i v τ λ t o w g. expect-sound _ i semiColon w τ λ o z r.
       color-kept _ n t z τ λ υ m. read-sound _ (t, (refl, (f ▸ g ▸ r ▸ here, m)))
 
-  defines : {d : ℕ} {Γ : Colors} {p : List Token} (js : Reading) {ks : Reading} (n : Name) (t : Token) → js ≡ definition i n t → Sheet d (colorsAfter Γ js) p ks → Sheet d Γ (colorRef n ∷ sign colon ∷ t ∷ sign semiColon ∷ p) (js ++ ks)
+  defines : {d : ℕ} {Γ : Colors} {p : List Token} (js : Reading) {ks : Reading} (n : Name) (t : Token) → js ≡ definition i n t → Sheet i d (colorsAfter Γ js) p ks → Sheet i d Γ (colorRef n ∷ sign colon ∷ t ∷ sign semiColon ∷ p) (js ++ ks)
   defines {d} {Γ} {p} js {ks} n t e h =
-      subst (λ js. Sheet d Γ (colorRef n ∷ sign colon ∷ t ∷ sign semiColon ∷ p) (js ++ ks)) (sym e)
-      (definition-is n t (subst (λ js. Sheet d (colorsAfter Γ js) p ks) e h))
+      subst (λ js. Sheet i d Γ (colorRef n ∷ sign colon ∷ t ∷ sign semiColon ∷ p) (js ++ ks)) (sym e)
+      (definition-is n t (subst (λ js. Sheet i d (colorsAfter Γ js) p ks) e h))
 
   -- the colours of the tables follow their entries
   module _ (tinted : (e : Entry) (τ υ : T) → i .store .put e τ ≡ some υ → i .store .colors υ ≡ tint (i .store .colors τ) e) where
@@ -443,8 +438,8 @@ module _ {C T P R : Type 0} (i : Input C T P R) where
     pub rule-colors : {τ υ : T} (r : Rule) → Puts i τ (ruleEntries r) υ → i .store .colors υ ≡ i .store .colors τ
     rule-colors {τ} r m = puts-tint m ∙ rule-tints (i .store .colors τ) r
 
-    recolored : {d : ℕ} {Γ Δ : Colors} {p : List Token} {js : Reading} → Γ ≡ Δ → Sheet d Γ p js → Sheet d Δ p js
-    recolored {d} {p = p} {js = js} e h = subst (λ Γ. Sheet d Γ p js) e h
+    recolored : {d : ℕ} {Γ Δ : Colors} {p : List Token} {js : Reading} → Γ ≡ Δ → Sheet i d Γ p js → Sheet i d Δ p js
+    recolored {d} {p = p} {js = js} e h = subst (λ Γ. Sheet i d Γ p js) e h
 
     sheet-reads : (d : ℕ) (imp : Name → C → T → Answer Reading C T R) → ((n : Name) (c : C) (τ : T) → Sound (Imports d n τ) (imp n c τ)) → (k : ℕ) (c : C) (τ : T) → Sound (Sheets d c τ) (parse i imp k c τ)
     unfolding parse entriesOf
@@ -465,6 +460,6 @@ module _ {C T P R : Type 0} (i : Input C T P R) where
         (d, (refl, (h .0, ((u, (e, (v, h .1 .0))), h .1 .1))))
 
     -- what is loaded has a derivation, and the tables hold its entries, in order
-    pub load-sound : (c : C) (τ : T) (js : Reading) (f : C) (υ : T) → load i c τ ≡ read js f υ → (p : List Token) × (WholeTo i c p f × (Puts i τ (entriesOf js) υ × Sheet 8 (i .store .colors τ) p js))
+    pub load-sound : (c : C) (τ : T) (js : Reading) (f : C) (υ : T) → load i c τ ≡ read js f υ → (p : List Token) × (WholeTo i c p f × (Puts i τ (entriesOf js) υ × Sheet i 8 (i .store .colors τ) p js))
     unfolding load
     load-sound c τ js f υ q = sheet-reads 8 (importFile i 8) (imports-read 8) (i .fuel c) c τ js f υ q

@@ -1,0 +1,36 @@
+-- The promise on reading: which texts are accepted, what they read as, and what the tables then hold.
+use Prim.Native.Nat.{ℕ, _≤_}
+use mathlib.Core.Path.{_≡_}
+use mathlib.Core.List.{List, []}
+use lib.ListN.{length}
+use Rattle.grammar.specs.Token.{Token}
+use Rattle.grammar.specs.Reading.{Reading}
+use Rattle.grammar.specs.Input.{Input, over, Answer, read}
+use Rattle.grammar.specs.Reader.{load}
+use Rattle.grammar.specs.Capacity.{Tables, empty, tablesOf, limited, Bounded}
+use Rattle.grammar.specs.Stream.{Gives, Whole, Sheet}
+
+module _ {C T P R : Type 0} (i : Input C T P R) where
+  -- the text at c is one of the grammar's, and js is a reading of it
+  abbrev pub Reads : C → Reading → Type 0
+  Reads c js = (p : List Token) × (Whole i c p × Sheet i 8 [] p js)
+
+  -- no text has more tokens than its fuel
+  abbrev pub Fueled : Type 0
+  Fueled = (c d : C) (p : List Token) → Gives i c p d → length p ≤ i .fuel c
+
+  -- the load of the text at c into empty tables of these capacities
+  abbrev pub loadInto : (ℕ → ℕ) → C → Answer Reading C Tables R
+  loadInto capacity c = load (over i (limited capacity)) c empty
+
+  -- an accepted text is the grammar's, its reading is within the capacities, and the tables are those that it fills
+  abbrev pub Accepted : Type 0
+  Accepted = (capacity : ℕ → ℕ) (c f : C) (js : Reading) (υ : Tables) → loadInto capacity c ≡ read js f υ → Reads c js × (Bounded capacity js × (υ ≡ tablesOf js))
+
+  -- a text of the grammar whose reading is within the capacities is accepted, with this reading
+  abbrev pub Accepts : Type 0
+  Accepts = (capacity : ℕ → ℕ) (c : C) (js : Reading) → Reads c js → Bounded capacity js → (f : C) × (loadInto capacity c ≡ read js f (tablesOf js))
+
+  -- each text has one reading
+  abbrev pub OneReading : Type 0
+  OneReading = (c : C) (js ks : Reading) → Reads c js → Reads c ks → js ≡ ks
