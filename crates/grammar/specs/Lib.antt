@@ -15,3 +15,7 @@ pub mod Capacity
 pub mod CapacityLaws
 pub mod Accepted
 pub mod AcceptedProof
+pub mod Texts
+pub mod TextsProof
+pub mod Spelling
+pub mod Examples
