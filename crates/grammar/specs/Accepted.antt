@@ -1,27 +1,22 @@
 -- The promise on reading: which texts are accepted, what they read as, and what the tables then hold.
-use Prim.Native.Nat.{ℕ, _≤_}
+use Prim.Native.Nat.{ℕ}
 use mathlib.Core.Path.{_≡_}
 use mathlib.Core.List.{List, []}
-use lib.ListN.{length}
 use Rattle.grammar.specs.Token.{Token}
 use Rattle.grammar.specs.Reading.{Reading}
 use Rattle.grammar.specs.Input.{Input, over, Answer, read}
 use Rattle.grammar.specs.Reader.{load}
 use Rattle.grammar.specs.Capacity.{Tables, empty, tablesOf, limited, Bounded}
-use Rattle.grammar.specs.Stream.{Gives, Whole, Sheet}
+use Rattle.grammar.specs.Stream.{Whole, Sheet}
 
 module _ {C T P R : Type 0} (i : Input C T P R) where
   -- the text at c is one of the grammar's, and js is a reading of it
   abbrev pub Reads : C → Reading → Type 0
   Reads c js = (p : List Token) × (Whole i c p × Sheet i 8 [] p js)
 
-  -- no text has more tokens than its fuel
-  abbrev pub Fueled : Type 0
-  Fueled = (c d : C) (p : List Token) → Gives i c p d → length p ≤ i .fuel c
-
   -- the load of the text at c into empty tables of these capacities
   abbrev pub loadInto : (ℕ → ℕ) → C → Answer Reading C Tables R
-  loadInto capacity c = load (over i (limited capacity)) c empty
+  loadInto capacity c = load (over i (i .fuel) (limited capacity)) c empty
 
   -- an accepted text is the grammar's, its reading is within the capacities, and the tables are those that it fills
   abbrev pub Accepted : Type 0

@@ -14,9 +14,9 @@ use Rattle.grammar.specs.Input.{Entry, Input, Store, over, token, end, A
 use Rattle.grammar.specs.Reader.{load}
 use Rattle.grammar.specs.Grammar.{IsSheet, finish, aRule, defined, dropped, imported}
 use Rattle.grammar.specs.Capacity.{Tables, empty, tablesOf, limited, stores, Bounded}
-use Rattle.grammar.specs.Stream.{Gives, here, _▸_, Whole, WholeTo, TextOf, Sheet}
+use Rattle.grammar.specs.Stream.{Gives, here, _▸_, Whole, WholeTo, TextOf, Sheet, Fueled}
 use Rattle.grammar.specs.CapacityLaws.{loaded, loads}
-use Rattle.grammar.specs.Accepted.{Reads, Fueled, loadInto, Accepted, Accepts, OneReading}
+use Rattle.grammar.specs.Accepted.{Reads, loadInto, Accepted, Accepts, OneReading}
 
 -- other words for the texts of the bundle
 pub retold : {countable : Float → Bool} {X Y : Bytes → List Token → Type 0} → ((n : Bytes) (q : List Token) → X n q → Y n q) → {d : ℕ} {Γ : Colors} {p : List Token} {js : Reading} → IsSheet countable X d Γ p js → IsSheet countable Y d Γ p js
@@ -27,34 +27,35 @@ retold f (dropped n t z h) = dropped n t z (retold f h)
 retold f (imported n x d h) = imported n (f (n .bytes) _ x) (retold f d) (retold f h)
 
 -- what a text gives does not depend on the tables
-module _ {C T U P R : Type 0} (i : Input C T P R) (s : Store U) where
-  gives-over : {c d : C} {p : List Token} → Gives i c p d → Gives (over i s) c p d
+module _ {C T U P R : Type 0} (i : Input C T P R) (g : C → ℕ) (s : Store U) where
+  gives-over : {c d : C} {p : List Token} → Gives i c p d → Gives (over i g s) c p d
   gives-over here = here
-  gives-over (e ▸ g) = e ▸ gives-over g
+  gives-over (e ▸ h) = e ▸ gives-over h
 
-  gives-back : {c d : C} {p : List Token} → Gives (over i s) c p d → Gives i c p d
+  gives-back : {c d : C} {p : List Token} → Gives (over i g s) c p d → Gives i c p d
   gives-back here = here
-  gives-back (e ▸ g) = e ▸ gives-back g
+  gives-back (e ▸ h) = e ▸ gives-back h
 
-  sheet-over : {d : ℕ} {Γ : Colors} {p : List Token} {js : Reading} → Sheet i d Γ p js → Sheet (over i s) d Γ p js
+  sheet-over : {d : ℕ} {Γ : Colors} {p : List Token} {js : Reading} → Sheet i d Γ p js → Sheet (over i g s) d Γ p js
   sheet-over h = retold (λ n q x. (x .0, (x .1 .0, (x .1 .1 .0, (x .1 .1 .1 .0, (gives-over (x .1 .1 .1 .1 .0), x .1 .1 .1 .1 .1)))))) h
 
-  sheet-back : {d : ℕ} {Γ : Colors} {p : List Token} {js : Reading} → Sheet (over i s) d Γ p js → Sheet i d Γ p js
+  sheet-back : {d : ℕ} {Γ : Colors} {p : List Token} {js : Reading} → Sheet (over i g s) d Γ p js → Sheet i d Γ p js
   sheet-back h = retold (λ n q x. (x .0, (x .1 .0, (x .1 .1 .0, (x .1 .1 .1 .0, (gives-back (x .1 .1 .1 .1 .0), x .1 .1 .1 .1 .1)))))) h
 
 module _ {C T P R : Type 0} (i : Input C T P R) where
   pub accepted : Accepted i
   accepted capacity c f js υ e =
-      let h = loaded capacity (over i (limited capacity)) refl c js f υ e in
+      let h = loaded capacity (over i (i .fuel) (limited capacity)) refl c js f υ e in
       let w = h .1 .0 in
-      ((h .0, ((f, (w .0, (gives-back i (limited capacity) (w .1 .0), w .1 .1))), sheet-back i (limited capacity) (h .1 .1 .0))), h .1 .1 .1)
+      ((h .0, ((f, (w .0, (gives-back i (i .fuel) (limited capacity) (w .1 .0), w .1 .1))), sheet-back i (i .fuel) (limited capacity) (h .1 .1 .0))), h .1 .1 .1)
 
   module _ (fueled : Fueled i) where
     pub accepts : Accepts i
     accepts capacity c js r b =
         let w = r .1 .0 in
         let s = limited capacity in
-        (w .0, loads capacity (over i s) refl (λ c d p g. fueled c d p (gives-back i s g)) c (w .0) (r .0) js (w .1 .0, (gives-over i s (w .1 .1 .0), w .1 .1 .1)) (sheet-over i s (r .1 .1)) b)
+        let g = i .fuel in
+        (w .0, loads capacity (over i g s) refl (λ c d p h. fueled c d p (gives-back i g s h)) c (w .0) (r .0) js (w .1 .0, (gives-over i g s (w .1 .1 .0), w .1 .1 .1)) (sheet-over i g s (r .1 .1)) b)
 
     -- both fit into tables that are large enough for both
     pub one-reading : OneReading i

@@ -17,7 +17,7 @@ use Rattle.grammar.specs.Input.{Entry, ruleEntry, selectorEntry, testEnt
 use Rattle.grammar.specs.Reader.{load}
 use Rattle.grammar.specs.Entries.{entriesOf, one, count, tint, tints}
 use Rattle.grammar.specs.Capacity.{Tables, tables, empty, add, addAll, tablesOf, taken, stores, room, limited, Bounded, Fits}
-use Rattle.grammar.specs.Stream.{Gives, WholeTo, Sheet}
+use Rattle.grammar.specs.Stream.{WholeTo, Sheet, Fueled}
 use Rattle.grammar.specs.Laws.{Puts, kept, _◂_}
 use Rattle.grammar.specs.Sound.{reading-tints, load-sound}
 use Rattle.grammar.specs.Complete.{load-complete}
@@ -211,5 +211,5 @@ module _ (capacity : ℕ → ℕ) where
         (h .0, (h .1 .0, (subst (λ Γ. Sheet i 8 Γ (h .0) js) (shown empty) (h .1 .1 .1), (fits-bounded js (subst (Fits capacity) (g .0) (g .1)), g .0))))
 
     -- what the grammar has, within the capacities, is loaded, and the tables are those that it fills
-    pub loads : (fueled : (c d : C) (p : List Token) → Gives i c p d → length p ≤ i .fuel c) (c f : C) (p : List Token) (js : Reading) → WholeTo i c p f → Sheet i 8 [] p js → Bounded capacity js → load i c empty ≡ read js f (tablesOf js)
+    pub loads : Fueled i → (c f : C) (p : List Token) (js : Reading) → WholeTo i c p f → Sheet i 8 [] p js → Bounded capacity js → load i c empty ≡ read js f (tablesOf js)
     loads fueled c f p js w d b = load-complete i tinted fueled c f empty (tablesOf js) w (fits-puts (entriesOf js) empty (bounded-fits js b)) (subst (λ Γ. Sheet i 8 Γ p js) (sym (shown empty)) d)

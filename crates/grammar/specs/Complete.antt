@@ -18,7 +18,7 @@ use Rattle.grammar.specs.Input.{Entry, ruleEntry, selectorEntry, colorEn
 use Rattle.grammar.specs.Reader.{toBinaryStringTestType, toBinaryNumericTestType, widthIncrement, isColors, plainTest, bangTest, readTest, readNumberList, tokensToSemiColon, readSimpleEval, readPropertyValue, readProperties, readParts, readSelector, skipColors, readRule, before, parse, importFile, load}
 use Rattle.grammar.specs.Grammar.{IsName, single, double, IsKey, named, quotedKey, quotedDouble, eq, ne, lt, le, gt, ge, plainOperand, digitsOperand, IsTest, there, trueTag, falseTag, missing, untrue, compared, measured, IsNumbers, lastNumber, moreNumbers, IsDelta, zeroDelta, someDelta, IsValue, oneWord, twoWords, aString, aColor, reference, list, eval, IsProperties, closed, assign, HasParts, nothing, zooms, tested, class, layer, IsSelector, typed, IsSkipped, stop, over, IsRule, body, auxiliary, lastSelector, selectorThen, IsSheet, finish, aRule, defined, dropped, imported}
 use Rattle.grammar.specs.Entries.{testEntries, testsEntries, numbersEntries, valueEntries, propertiesEntries, selectorsEntries, ruleEntries, entriesOf, tint}
-use Rattle.grammar.specs.Stream.{Gives, here, _▸_, WholeTo, Sheet}
+use Rattle.grammar.specs.Stream.{Gives, here, _▸_, WholeTo, Sheet, Fueled}
 use Rattle.grammar.specs.Laws.{Puts, kept, _◂_, uncons, split, unput, apart}
 use Rattle.grammar.specs.Sound.{added, added-is, ender, entries-append, reading-colors, rule-colors}
 
@@ -243,7 +243,7 @@ module _ {C T P R : Type 0} (i : Input C T P R) where
   rule-first imp k τ brace e = rw e
   rule-first imp k τ (type a) e = rw e
 
-  rule-long : {Γ : Colors} {p : List Token} {r : Rule} → IsRule (i .countable) Γ p r → 1 ≤ length p
+  pub rule-long : {Γ : Colors} {p : List Token} {r : Rule} → IsRule (i .countable) Γ p r → 1 ≤ length p
   rule-long (body d) = omega arith
   rule-long (auxiliary a z d) = omega arith
   rule-long (lastSelector (typed a y n h) d) = omega arith
@@ -252,7 +252,10 @@ module _ {C T P R : Type 0} (i : Input C T P R) where
   entries-apart : (js ks : Reading) {τ φ : T} → Puts i τ (entriesOf (js ++ ks)) φ → (υ : T) × (Puts i τ (entriesOf js) υ × Puts i υ (entriesOf ks) φ)
   entries-apart js ks {τ} {φ} m = apart i (entriesOf js) (subst (λ es. Puts i τ es φ) (entries-append js ks) m)
 
-  module _ (tinted : (e : Entry) (τ υ : T) → i .store .put e τ ≡ some υ → i .store .colors υ ≡ tint (i .store .colors τ) e) (fueled : (c d : C) (p : List Token) → Gives i c p d → length p ≤ i .fuel c) where
+  module _ (tinted : (e : Entry) (τ υ : T) → i .store .put e τ ≡ some υ → i .store .colors υ ≡ tint (i .store .colors τ) e) (fueled : Fueled i) where
+    enough : (c d : C) (p : List Token) → Gives i c p d → length p ≤ i .fuel c
+    enough c d p g = let l = fueled c d p g in omega (arith, l)
+
     sheet-done : {d : ℕ} {Γ : Colors} {p : List Token} {js : Reading} {c e f : C} {τ υ : T} → Sheet i d Γ p js → (k : ℕ) → i .store .colors τ ≡ Γ → length p ≤ k → Gives i c p e → i .next e ≡ end f → Puts i τ (entriesOf js) υ → parse i (importFile i d) k c τ ≡ read js f υ
     unfolding parse importFile entriesOf on-next after on-option on-import on-colorRef on-color colorOf isSign
     sheet-done finish zero q l here e kept = rw e
@@ -271,9 +274,9 @@ module _ {C T P R : Type 0} (i : Input C T P R) where
     sheet-done (imported {js = js} {ks = ks} n x d h) (suc k) q l (a ▸ b ▸ g) e m =
         let o = entries-apart js ks m in
         let w = x .1 .1 .1 in
-        rw (a, b, x .1 .0, sheet-done d (i .fuel (x .0)) q (fueled (x .0) (w .0) _ (w .1 .0)) (w .1 .0) (w .1 .1) (o .1 .0), sheet-done h k (reading-colors i tinted js (o .1 .0) ∙ ap (λ Γ. colorsAfter Γ js) q) (omega arith) g e (o .1 .1))
+        rw (a, b, x .1 .0, sheet-done d (i .fuel (x .0)) q (enough (x .0) (w .0) _ (w .1 .0)) (w .1 .0) (w .1 .1) (o .1 .0), sheet-done h k (reading-colors i tinted js (o .1 .0) ∙ ap (λ Γ. colorsAfter Γ js) q) (omega arith) g e (o .1 .1))
 
     -- what the grammar has, and the tables have room for, is loaded: never refused, and with these tables
     pub load-complete : {p : List Token} {js : Reading} (c f : C) (τ υ : T) → WholeTo i c p f → Puts i τ (entriesOf js) υ → Sheet i 8 (i .store .colors τ) p js → load i c τ ≡ read js f υ
     unfolding load
-    load-complete {p} c f τ υ w m d = sheet-done d (i .fuel c) refl (fueled c (w .0) p (w .1 .0)) (w .1 .0) (w .1 .1) m
+    load-complete {p} c f τ υ w m d = sheet-done d (i .fuel c) refl (enough c (w .0) p (w .1 .0)) (w .1 .0) (w .1 .1) m

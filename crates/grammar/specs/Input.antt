@@ -65,15 +65,15 @@ pub record Input (C T P R : Type 0) : Type 0 where
   pub why : Reason → P → R
   -- the text of the bundle with this name
   pub text : Bytes → Option C
-  -- at least the number of tokens that are left
+  -- more than the number of tokens that are left
   pub fuel : C → ℕ
   -- a number that an = or != test may have: whole, and at most 9,007,199,254,740,991 in size
   pub countable : Float → Bool
   pub store : Store T
 
--- the same texts, with other tables
-abbrev pub over : {C T T′ P R : Type 0} → Input C T P R → Store T′ → Input C T′ P R
-over i s = record { next = i .next; reached = i .reached; why = i .why; text = i .text; fuel = i .fuel; countable = i .countable; store = s }
+-- the same texts, with other fuel and other tables
+abbrev pub over : {C T U P R : Type 0} → Input C T P R → (C → ℕ) → Store U → Input C U P R
+over i g s = record { next = i .next; reached = i .reached; why = i .why; text = i .text; fuel = g; countable = i .countable; store = s }
 
 pub data Answer (A C T R : Type 0) : Type 0 where
   refused : R → T → Answer A C T R

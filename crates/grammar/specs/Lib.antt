@@ -19,3 +19,5 @@ pub mod Texts
 pub mod TextsProof
 pub mod Spelling
 pub mod Examples
+pub mod Alike
+pub mod AlikeProof

@@ -236,7 +236,7 @@ module _ {C T P R : Type 0} (i : Input C T P R) where
   key-sound S a c τ k h₁ h₂ = token-sound _ i c τ λ t o u e.
       sign-sound _ colon t (λ q. name-sound _ i u τ λ b o v f. token-sound _ i v τ λ t o w z. h₂ b t o v w (found i e q ▸ f ▸ here) z) λ n. h₁ t o u e
 
-  test-reads : (c : C) (τ : T) → Sound (Tests c τ) (readTest i c τ)
+  pub test-reads : (c : C) (τ : T) → Sound (Tests c τ) (readTest i c τ)
   unfolding readTest
   test-reads c τ = token-sound _ i c τ λ t o u e.
       identifier-sound _ t (λ a q. key-sound _ a u τ (plainTest i) (λ t o v f. plain-sound (named (single a)) (found i e q ▸ here) f) (λ b t o v w g f. plain-sound (named (double a b)) (found i e q ▸ g) f))
@@ -276,7 +276,7 @@ module _ {C T P R : Type 0} (i : Input C T P R) where
   eval-reads k a o c d τ z e = after-sound _ _ (tokens-read k d τ) λ ts v υ h. option-sound _ (widthIncrement ts) (λ n. refused-sound _ _ _) λ x w. keep-sound _ i _ v υ λ φ m.
       read-sound _ (_, (e ▸ join i (h .0 .1 .1 .0) (h .0 .1 .1 .1 ▸ here), (same-tables (h .1) (m ◂ kept), eval a z (delta-tells ts x w))))
 
-  value-reads : (k : ℕ) (Γ : Colors) (c : C) (τ : T) → Sound (Phrase i (IsValue Γ) valueEntries c τ) (readPropertyValue i k Γ c τ)
+  pub value-reads : (k : ℕ) (Γ : Colors) (c : C) (τ : T) → Sound (Phrase i (IsValue Γ) valueEntries c τ) (readPropertyValue i k Γ c τ)
   unfolding readPropertyValue
   value-reads k Γ c τ = token-sound _ i c τ λ t o u e.
       identifier-sound _ t (λ a q. test-sound _ (same (a .bytes) (ascii "eval"))
@@ -339,7 +339,7 @@ module _ {C T P R : Type 0} (i : Input C T P R) where
       let q : σ .tests ≡ added h = added-is h in
       subst (λ ts. Puts i τ (testsEntries ts ++ (selectorEntry σ ∷ [])) υ) (sym q) m
 
-  selector-reads : (k : ℕ) (τ : T) (t : Token) (o : P) (c d : C) → i .next c ≡ token t o d → Sound (Selectors c τ) (readSelector i k τ t o d)
+  pub selector-reads : (k : ℕ) (τ : T) (t : Token) (o : P) (c d : C) → i .next c ≡ token t o d → Sound (Selectors c τ) (readSelector i k τ t o d)
   unfolding readSelector
   selector-reads k τ t o c d e =
       identifier-sound _ t (λ a q. option-sound _ (idToObjectType (a .bytes)) (λ n. refused-sound _ _ _) λ y l. λ s v υ r.
@@ -360,7 +360,7 @@ module _ {C T P R : Type 0} (i : Input C T P R) where
       sign-sound _ rightBrace t (λ q. read-sound _ (_, (found i e q ▸ here, (kept, stop)))) λ n.
       λ y v υ r. let h = skip-reads k u τ y v υ r in (_, (e ▸ h .1 .0, (h .1 .1 .0, over t n (h .1 .1 .1))))
 
-  rule-reads : (k : ℕ) (Γ : Colors) (τ : T) (t : Token) (o : P) (c d : C) → i .next c ≡ token t o d → Sound (Phrase i (IsRule (i .countable) Γ) ruleEntries c τ) (readRule i k Γ τ t o d)
+  pub rule-reads : (k : ℕ) (Γ : Colors) (τ : T) (t : Token) (o : P) (c d : C) → i .next c ≡ token t o d → Sound (Phrase i (IsRule (i .countable) Γ) ruleEntries c τ) (readRule i k Γ τ t o d)
   unfolding readRule ruleEntries selectorsEntries propertiesEntries
   rule-reads zero Γ τ t o c d e = refused-sound _ _ _
   rule-reads (suc k) Γ τ t o c d e =
@@ -416,7 +416,7 @@ module _ {C T P R : Type 0} (i : Input C T P R) where
   abbrev Defines : Name → C → T → Reading → C → T → Type 0
   Defines n c τ js d υ = (t : Token) × ((js ≡ definition i n t) × (Gives i c (sign colon ∷ t ∷ sign semiColon ∷ []) d × Puts i τ (entriesOf js) υ))
 
-  color-reads : (n : Name) (c : C) (τ : T) → Sound (Defines n c τ) (readColorDef i n c τ)
+  pub color-reads : (n : Name) (c : C) (τ : T) → Sound (Defines n c τ) (readColorDef i n c τ)
   color-reads n c τ = expect-sound _ i colon c τ λ o v f. token-sound _ i v τ λ t o w g. expect-sound _ i semiColon w τ λ o z r.
       color-kept _ n t z τ λ υ m. read-sound _ (t, (refl, (f ▸ g ▸ r ▸ here, m)))
 

@@ -1,8 +1,9 @@
 -- The tokens of a text, and the texts of a bundle, as the grammar sees them.
-use Prim.Native.Nat.{ℕ}
+use Prim.Native.Nat.{ℕ, _<_}
 use mathlib.Core.Path.{_≡_}
 use mathlib.Core.List.{List, [], _∷_}
 use mathlib.Core.Option.{some}
+use lib.ListN.{length}
 use Rattle.base.specs.Bytes.{Bytes}
 use Rattle.grammar.specs.Token.{Token}
 use Rattle.grammar.specs.Reading.{Reading, Colors}
@@ -30,3 +31,11 @@ module _ {C T P R : Type 0} (i : Input C T P R) where
   -- a sheet, its imports taken from the bundle
   abbrev pub Sheet : ℕ → Colors → List Token → Reading → Type 0
   Sheet = IsSheet (i .countable) TextOf
+
+  -- k is more than the number of tokens from c on
+  abbrev pub Ample : C → ℕ → Type 0
+  Ample c k = (d : C) (p : List Token) → Gives c p d → length p < k
+
+  -- the fuel is what Input says
+  abbrev pub Fueled : Type 0
+  Fueled = (c : C) → Ample c (i .fuel c)

@@ -1,5 +1,5 @@
 -- Token lists are accepted exactly if the grammar has them.
-use Prim.Native.Nat.{ℕ, _+_, _≤_}
+use Prim.Native.Nat.{ℕ, suc, _+_, _≤_, _<_}
 use native.Mathlib.Omega.{arith}
 use mathlib.Core.Path.{_≡_, refl, sym, _∙_, ap, subst}
 use mathlib.Core.Bool.{Bool, true, false, cond, not, _&&_}
@@ -54,8 +54,8 @@ module _ (countable : Float → Bool) (b : Bundle) where
   whole-is : (s p f : List Token) → WholeTo (listed countable b endless) s p f → s ≡ p
   whole-is s p f w = given-is (w .1 .0) ∙ ap (λ u. p ++ u) (given-end (w .0) f (w .1 .1)) ∙ append-nil p
 
-  long-enough : (s u p : List Token) → Gives (listed countable b endless) s p u → length p ≤ length s
-  long-enough s u p g = rw (given-is g) (fits p u)
+  long-enough : (s u p : List Token) → Gives (listed countable b endless) s p u → length p < suc (length s)
+  long-enough s u p g = rw (given-is g) (let h = fits p u in omega (arith, h))
     where
       fits : (p u : List Token) → length p ≤ length (p ++ u)
       fits [] u = omega arith
