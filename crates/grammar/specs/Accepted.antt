@@ -29,3 +29,11 @@ module _ {C T P R : Type 0} (i : Input C T P R) where
   -- each text has one reading
   abbrev pub OneReading : Type 0
   OneReading = (c : C) (js ks : Reading) → Reads c js → Reads c ks → js ≡ ks
+
+  -- the same of any tables that stand for those, such as the tables lent to a load
+  module _ (Rel : T → Tables → Type 0) (capacity : ℕ → ℕ) where
+    abbrev pub StoredAccepted : Type 0
+    StoredAccepted = (c f : C) (τ υ : T) (js : Reading) → Rel τ empty → load i c τ ≡ read js f υ → Reads c js × (Bounded capacity js × Rel υ (tablesOf js))
+
+    abbrev pub StoredAccepts : Type 0
+    StoredAccepts = (c : C) (τ : T) (js : Reading) → Rel τ empty → Reads c js → Bounded capacity js → (f : C) × ((υ : T) × ((load i c τ ≡ read js f υ) × Rel υ (tablesOf js)))

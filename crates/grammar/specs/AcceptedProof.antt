@@ -2,7 +2,7 @@
 use Prim.Native.Nat.{ℕ, suc, _+_, _≤_}
 use native.Mathlib.Omega.{arith}
 use mathlib.Core.Path.{_≡_, refl, sym, _∙_, ap, subst}
-use mathlib.Core.Bool.{Bool}
+use mathlib.Core.Bool.{Bool, true, false, cond}
 use mathlib.Core.List.{List, [], _∷_, _++_}
 use mathlib.Core.Option.{some}
 use lib.ListN.{length}
@@ -10,13 +10,16 @@ use lib.Ieee.{Float}
 use Rattle.base.specs.Bytes.{Bytes}
 use Rattle.grammar.specs.Token.{Token}
 use Rattle.grammar.specs.Reading.{Reading, Colors}
-use Rattle.grammar.specs.Input.{Entry, Input, Store, over, token, end, Answer, read}
+use Rattle.grammar.specs.Input.{Entry, Input, Store, over, token, end, Answer, refused, read}
 use Rattle.grammar.specs.Reader.{load}
 use Rattle.grammar.specs.Grammar.{IsSheet, finish, aRule, defined, dropped, imported}
 use Rattle.grammar.specs.Capacity.{Tables, empty, tablesOf, limited, stores, Bounded}
 use Rattle.grammar.specs.Stream.{Gives, here, _▸_, Whole, WholeTo, TextOf, Sheet, Fueled}
+use Rattle.grammar.specs.Laws.{gives-over, gives-back}
+use Rattle.grammar.specs.Alike.{Alike, bothRefused, bothRead, Stands}
+use Rattle.grammar.specs.AlikeProof.{loads-alike}
 use Rattle.grammar.specs.CapacityLaws.{loaded, loads}
-use Rattle.grammar.specs.Accepted.{Reads, loadInto, Accepted, Accepts, OneReading}
+use Rattle.grammar.specs.Accepted.{Reads, loadInto, Accepted, Accepts, OneReading, StoredAccepted, StoredAccepts}
 
 -- other words for the texts of the bundle
 pub retold : {countable : Float → Bool} {X Y : Bytes → List Token → Type 0} → ((n : Bytes) (q : List Token) → X n q → Y n q) → {d : ℕ} {Γ : Colors} {p : List Token} {js : Reading} → IsSheet countable X d Γ p js → IsSheet countable Y d Γ p js
@@ -26,21 +29,13 @@ retold f (defined n c h) = defined n c (retold f h)
 retold f (dropped n t z h) = dropped n t z (retold f h)
 retold f (imported n x d h) = imported n (f (n .bytes) _ x) (retold f d) (retold f h)
 
--- what a text gives does not depend on the tables
+-- nor do the texts of the bundle depend on fuel and tables
 module _ {C T U P R : Type 0} (i : Input C T P R) (g : C → ℕ) (s : Store U) where
-  gives-over : {c d : C} {p : List Token} → Gives i c p d → Gives (over i g s) c p d
-  gives-over here = here
-  gives-over (e ▸ h) = e ▸ gives-over h
-
-  gives-back : {c d : C} {p : List Token} → Gives (over i g s) c p d → Gives i c p d
-  gives-back here = here
-  gives-back (e ▸ h) = e ▸ gives-back h
-
   sheet-over : {d : ℕ} {Γ : Colors} {p : List Token} {js : Reading} → Sheet i d Γ p js → Sheet (over i g s) d Γ p js
-  sheet-over h = retold (λ n q x. (x .0, (x .1 .0, (x .1 .1 .0, (x .1 .1 .1 .0, (gives-over (x .1 .1 .1 .1 .0), x .1 .1 .1 .1 .1)))))) h
+  sheet-over h = retold (λ n q x. (x .0, (x .1 .0, (x .1 .1 .0, (x .1 .1 .1 .0, (gives-over i g s (x .1 .1 .1 .1 .0), x .1 .1 .1 .1 .1)))))) h
 
   sheet-back : {d : ℕ} {Γ : Colors} {p : List Token} {js : Reading} → Sheet (over i g s) d Γ p js → Sheet i d Γ p js
-  sheet-back h = retold (λ n q x. (x .0, (x .1 .0, (x .1 .1 .0, (x .1 .1 .1 .0, (gives-back (x .1 .1 .1 .1 .0), x .1 .1 .1 .1 .1)))))) h
+  sheet-back h = retold (λ n q x. (x .0, (x .1 .0, (x .1 .1 .0, (x .1 .1 .1 .0, (gives-back i g s (x .1 .1 .1 .1 .0), x .1 .1 .1 .1 .1)))))) h
 
 module _ {C T P R : Type 0} (i : Input C T P R) where
   pub accepted : Accepted i
@@ -65,3 +60,37 @@ module _ {C T P R : Type 0} (i : Input C T P R) where
         let b = accepts capacity c ks q (λ k. omega arith) in
         let e : _≡_ {A = Answer Reading C Tables R} (read js (a .0) (tablesOf js)) (read ks (b .0) (tablesOf ks)) = sym (a .1) ∙ b .1 in
         cc
+
+-- an answer that has read something is alike only to one that has read the same
+module _ {A C T U R : Type 0} {Rel : T → U → Type 0} where
+  read-right : {a : Answer A C T R} {b : Answer A C U R} {x : A} {c : C} {τ : T} → Alike Rel a b → a ≡ read x c τ → (υ : U) × ((b ≡ read x c υ) × Rel τ υ)
+  read-right {x = x} {c = c} {τ = τ} (bothRead {x = y} {c = d} {τ = φ} {υ = υ} s) e =
+      let p : y ≡ x = cc in
+      let q : d ≡ c = cc in
+      let r : φ ≡ τ = cc in
+      (υ, (rw (p, q), subst (λ τ. Rel τ υ) r s))
+  read-right {x = x} {c = c} {τ = τ} (bothRefused s) e = let z : _≡_ {A = Bool} true false = cc in absurd (subst (λ b. cond b Unit ⊥) z tt)
+
+  read-left : {a : Answer A C T R} {b : Answer A C U R} {x : A} {c : C} {υ : U} → Alike Rel a b → b ≡ read x c υ → (τ : T) × ((a ≡ read x c τ) × Rel τ υ)
+  read-left {x = x} {c = c} {υ = υ} (bothRead {x = y} {c = d} {τ = τ} {υ = φ} s) e =
+      let p : y ≡ x = cc in
+      let q : d ≡ c = cc in
+      let r : φ ≡ υ = cc in
+      (τ, (rw (p, q), subst (λ υ. Rel τ υ) r s))
+  read-left {x = x} {c = c} {υ = υ} (bothRefused s) e = let z : _≡_ {A = Bool} true false = cc in absurd (subst (λ b. cond b Unit ⊥) z tt)
+
+module _ {C T P R : Type 0} (i : Input C T P R) (Rel : T → Tables → Type 0) (capacity : ℕ → ℕ) (stands : Stands Rel (i .store) (limited capacity)) (fueled : Fueled i) where
+  alike : (c : C) (τ : T) → Rel τ empty → Alike Rel (load i c τ) (loadInto i capacity c)
+  alike c τ s = loads-alike i (i .fuel) (limited capacity) Rel stands fueled (λ c d p h. fueled c d p (gives-back i (i .fuel) (limited capacity) h)) c τ empty s
+
+  pub stored-accepted : StoredAccepted i Rel capacity
+  stored-accepted c f τ υ js s e =
+      let h = read-right (alike c τ s) e in
+      let a = accepted i capacity c f js (h .0) (h .1 .0) in
+      (a .0, (a .1 .0, subst (Rel υ) (a .1 .1) (h .1 .1)))
+
+  pub stored-accepts : StoredAccepts i Rel capacity
+  stored-accepts c τ js s r b =
+      let a = accepts i fueled capacity c js r b in
+      let h = read-left (alike c τ s) (a .1) in
+      (a .0, (h .0, (h .1 .0, h .1 .1)))

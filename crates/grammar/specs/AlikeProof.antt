@@ -15,7 +15,7 @@ use Rattle.grammar.specs.Reading.{Test, Selector, Property, Rule, ruleIt
 use Rattle.grammar.specs.Input.{Entry, ruleEntry, selectorEntry, testEntry, propertyEntry, numberEntry, colorEntry, full, Store, Next, broken, end, token, Input, over, Answer, refused, read, on-next, on-option, after, keep}
 use Rattle.grammar.specs.Reader.{toBinaryStringTestType, toBinaryNumericTestType, widthIncrement, isColors, readMandatoryToken, expectSimpleToken, readIdentifier, keepTest, readOperand, readNumber, plainTest, bangTest, readKey, readTest, readNumberList, tokensToSemiColon, readSimpleEval, readPropertyValue, readProperties, readParts, readSelector, skipColors, keepRule, readRule, keepColor, readColorDef, before, parse, importFile, load}
 use Rattle.grammar.specs.Stream.{Gives, here, _▸_, Ample, Fueled}
-use Rattle.grammar.specs.Laws.{join, found}
+use Rattle.grammar.specs.Laws.{join, found, gives-over}
 use Rattle.grammar.specs.Sound.{test-reads, value-reads, selector-reads, rule-reads, color-reads}
 use Rattle.grammar.specs.Complete.{rule-long}
 use Rattle.grammar.specs.Alike.{Alike, bothRefused, bothRead, BothPut, bothFull, bothTake, Stands, LoadsAlike}
@@ -353,10 +353,6 @@ module _ {C T U P R : Type 0} (i : Input C T P R) (g : C → ℕ) (z : Store U) 
     load-alike : (c : C) (τ : T) (υ : U) → Rel τ υ → Alike Rel (load i c τ) (load j c υ)
     unfolding load
     load-alike c τ υ s = parse-alike (importFile i 8) (importFile j 8) (import-file-alike 8) (i .fuel c) (g c) c (fueled c) (fueled′ c) s
-
-gives-over : {C T U P R : Type 0} (i : Input C T P R) (g : C → ℕ) (z : Store U) {c d : C} {p : List Token} → Gives i c p d → Gives (over i g z) c p d
-gives-over i g z here = here
-gives-over i g z (e ▸ h) = e ▸ gives-over i g z h
 
 pub loads-alike : {C T U P R : Type 0} (i : Input C T P R) (g : C → ℕ) (z : Store U) (Rel : T → U → Type 0) → LoadsAlike i g z Rel
 loads-alike i g z Rel stands f f′ c τ υ s = load-alike i g z Rel stands f (λ c d p h. f′ c d p (gives-over i g z h)) c τ υ s

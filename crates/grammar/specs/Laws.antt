@@ -9,7 +9,7 @@ use Rattle.sheet.specs.Sheet.{Color}
 use Rattle.grammar.specs.Token.{Name, Sign, Token, import, identifier, string, colorRef, number, zoomRange, color, sign}
 use Rattle.grammar.specs.View.{isSign, on-sign, on-import, on-identifier, on-string, on-colorRef, on-number, on-zoomRange, on-color}
 use Rattle.grammar.specs.ViewLaws.{test-holds, sign-holds, import-holds, identifier-holds, string-holds, colorRef-holds, number-holds, zoomRange-holds, color-holds}
-use Rattle.grammar.specs.Input.{Entry, Next, broken, end, token, Input, Answer, refused, read, on-next, on-option, after, keep}
+use Rattle.grammar.specs.Input.{Entry, Store, over, Next, broken, end, token, Input, Answer, refused, read, on-next, on-option, after, keep}
 use Rattle.grammar.specs.Reader.{readMandatoryToken, expectSimpleToken, readIdentifier}
 use Rattle.grammar.specs.Stream.{Gives, here, _▸_}
 
@@ -55,6 +55,17 @@ module _ {C T P R : Type 0} (i : Input C T P R) where
   abbrev pub Phrase : {A : Type 0} → (List Token → A → Type 0) → (A → List Entry) → C → T → A → C → T → Type 0
   Phrase X E c τ x d υ = (p : List Token) × (Gives i c p d × (Puts τ (E x) υ × X p x))
 
+-- what a text gives does not depend on fuel and tables
+module _ {C T U P R : Type 0} (i : Input C T P R) (g : C → ℕ) (z : Store U) where
+  pub gives-over : {c d : C} {p : List Token} → Gives i c p d → Gives (over i g z) c p d
+  gives-over here = here
+  gives-over (e ▸ h) = e ▸ gives-over h
+
+  pub gives-back : {c d : C} {p : List Token} → Gives (over i g z) c p d → Gives i c p d
+  gives-back here = here
+  gives-back (e ▸ h) = e ▸ gives-back h
+
+-- S holds of whatever the answer has read
 module _ {A C T R : Type 0} (S : A → C → T → Type 0) where
   abbrev pub Sound : Answer A C T R → Type 0
   Sound a = (x : A) (d : C) (υ : T) → a ≡ read x d υ → S x d υ
