@@ -20,11 +20,15 @@ module _ {C T P R : Type 0} (i : Input C T P R) where
 
   -- an accepted text is the grammar's, its reading is within the capacities, and the tables are those that it fills
   abbrev pub Accepted : Type 0
-  Accepted = (capacity : ℕ → ℕ) (c f : C) (js : Reading) (υ : Tables) → loadInto capacity c ≡ read js f υ → Reads c js × (Bounded capacity js × (υ ≡ tablesOf js))
+  Accepted =
+      (capacity : ℕ → ℕ) (c f : C) (js : Reading) (υ : Tables) → loadInto capacity c ≡ read js f υ → Reads c js ×
+      (Bounded capacity js × (υ ≡ tablesOf js))
 
   -- a text of the grammar whose reading is within the capacities is accepted, with this reading
   abbrev pub Accepts : Type 0
-  Accepts = (capacity : ℕ → ℕ) (c : C) (js : Reading) → Reads c js → Bounded capacity js → (f : C) × (loadInto capacity c ≡ read js f (tablesOf js))
+  Accepts =
+      (capacity : ℕ → ℕ) (c : C) (js : Reading) → Reads c js → Bounded capacity js → (f : C) ×
+      (loadInto capacity c ≡ read js f (tablesOf js))
 
   -- each text has one reading
   abbrev pub OneReading : Type 0
@@ -33,7 +37,11 @@ module _ {C T P R : Type 0} (i : Input C T P R) where
   -- the same of any tables that stand for those, such as the tables lent to a load
   module _ (Rel : T → Tables → Type 0) (capacity : ℕ → ℕ) where
     abbrev pub StoredAccepted : Type 0
-    StoredAccepted = (c f : C) (τ υ : T) (js : Reading) → Rel τ empty → load i c τ ≡ read js f υ → Reads c js × (Bounded capacity js × Rel υ (tablesOf js))
+    StoredAccepted =
+        (c f : C) (τ υ : T) (js : Reading) → Rel τ empty → load i c τ ≡ read js f υ → Reads c js ×
+        (Bounded capacity js × Rel υ (tablesOf js))
 
     abbrev pub StoredAccepts : Type 0
-    StoredAccepts = (c : C) (τ : T) (js : Reading) → Rel τ empty → Reads c js → Bounded capacity js → (f : C) × ((υ : T) × ((load i c τ ≡ read js f υ) × Rel υ (tablesOf js)))
+    StoredAccepts =
+        (c : C) (τ : T) (js : Reading) → Rel τ empty → Reads c js → Bounded capacity js → (f : C) ×
+        ((υ : T) × ((load i c τ ≡ read js f υ) × Rel υ (tablesOf js)))

@@ -26,4 +26,6 @@ module _ {T U : Type 0} (Rel : T → U → Type 0) where
 module _ {C T U P R : Type 0} (i : Input C T P R) (g : C → ℕ) (z : Store U) (Rel : T → U → Type 0) where
   -- loads into tables that stand for one another are alike, whatever their fuel, if it is enough
   abbrev pub LoadsAlike : Type 0
-  LoadsAlike = Stands Rel (i .store) z → Fueled i → Fueled (over i g z) → (c : C) (τ : T) (υ : U) → Rel τ υ → Alike Rel (load i c τ) (load (over i g z) c υ)
+  LoadsAlike =
+      Stands Rel (i .store) z → Fueled i → Fueled (over i g z) → (c : C) (τ : T) (υ : U) → Rel τ υ → Alike Rel
+      (load i c τ) (load (over i g z) c υ)

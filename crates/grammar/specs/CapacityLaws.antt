@@ -32,12 +32,18 @@ last-count e (x ∷ es) k = let h = last-count e es k in omega (arith, h)
 define-grows : (Γ : Colors) (n : Name) (c : Color) → length Γ ≤ length (define Γ n c)
 unfolding define
 define-grows [] n c = omega arith
-define-grows (e ∷ Γ) n c = by-test (same (n .bytes) (e .name .bytes)) (λ p. rw p (omega arith)) (λ p. let h = define-grows Γ n c in rw p (omega (arith, h)))
+define-grows (e ∷ Γ) n c =
+    by-test (same (n .bytes) (e .name .bytes))
+    (λ p. rw p (omega arith))
+    (λ p. let h = define-grows Γ n c in rw p (omega (arith, h)))
 
 define-most : (Γ : Colors) (n : Name) (c : Color) → length (define Γ n c) ≤ suc (length Γ)
 unfolding define
 define-most [] n c = omega arith
-define-most (e ∷ Γ) n c = by-test (same (n .bytes) (e .name .bytes)) (λ p. rw p (omega arith)) (λ p. let h = define-most Γ n c in rw p (omega (arith, h)))
+define-most (e ∷ Γ) n c =
+    by-test (same (n .bytes) (e .name .bytes))
+    (λ p. rw p (omega arith))
+    (λ p. let h = define-most Γ n c in rw p (omega (arith, h)))
 
 -- one entry more in one of the first five tables
 abbrev further : Tables → Entry → Tables
@@ -101,7 +107,10 @@ all-tint (e ∷ es) τ = all-tint es (add τ e) ∙ ap (λ Γ. tints Γ es) (add
 
 -- ---- what a reading stores is what its tables have taken
 
-add-counts : (e : Entry) (τ : Tables) (k : ℕ) → eqb 6 k ≡ false → count k ((add τ e) .entries) ≡ count k (τ .entries) + one (eqb (tableOf e) k)
+add-counts :
+    (e : Entry) (τ : Tables) (k : ℕ)
+    → eqb 6 k ≡ false
+    → count k ((add τ e) .entries) ≡ count k (τ .entries) + one (eqb (tableOf e) k)
 unfolding add
 add-counts ruleEntry τ k p = last-count ruleEntry (τ .entries) k
 add-counts (selectorEntry s) τ k p = last-count (selectorEntry s) (τ .entries) k
@@ -135,7 +144,11 @@ module _ (capacity : ℕ → ℕ) where
 
   onward : (e : Entry) (τ : Tables) → Fits capacity τ → room capacity e τ ≡ true → Fits capacity (add τ e)
   onward e τ f r k = by-test (eqb (tableOf e) k)
-      (λ p. subst (λ k. taken k (add τ e) ≤ capacity k) (eqb-true (tableOf e) k p) (leb-true (taken (tableOf e) (add τ e)) (capacity (tableOf e)) r))
+      (λ p.
+      subst
+      (λ k. taken k (add τ e) ≤ capacity k)
+      (eqb-true (tableOf e) k p)
+      (leb-true (taken (tableOf e) (add τ e)) (capacity (tableOf e)) r))
       (λ p. rw (add-other e τ k p) (f k))
 
   all-back : (es : List Entry) (τ : Tables) → Fits capacity (addAll τ es) → Fits capacity τ
@@ -151,7 +164,11 @@ module _ (capacity : ℕ → ℕ) where
       omega (arith, h, g)
 
   -- redefining a colour takes no entry, so there is always room
-  pub redefined-room : (n : Name) (c x : Color) (τ : Tables) → Fits capacity τ → colorNamed n (τ .colors) ≡ some x → room capacity (colorEntry n c) τ ≡ true
+  pub redefined-room :
+      (n : Name) (c x : Color) (τ : Tables)
+      → Fits capacity τ
+      → colorNamed n (τ .colors) ≡ some x
+      → room capacity (colorEntry n c) τ ≡ true
   unfolding add define colorNamed
   redefined-room n c x τ f e = le-leb (length (define (τ .colors) n c)) (capacity 6) (rw (redefined (τ .colors) e) (f 6))
     where
@@ -172,7 +189,9 @@ module _ (capacity : ℕ → ℕ) where
         (λ r. let q : some (add τ e) ≡ some υ = rw r at (sym (put-is e τ) ∙ m) in
         let p : add τ e ≡ υ = cc in
         (r, p))
-        (λ r. let q : _≡_ {A = Option Tables} none (some υ) = rw r at (sym (put-is e τ) ∙ m) in let z : _≡_ {A = Bool} true false = cc in clash {b = true} refl z)
+        (λ r.
+        let q : _≡_ {A = Option Tables} none (some υ) = rw r at (sym (put-is e τ) ∙ m) in
+        let z : _≡_ {A = Bool} true false = cc in clash {b = true} refl z)
 
     tinted : (e : Entry) (τ υ : Tables) → i .store .put e τ ≡ some υ → i .store .colors υ ≡ tint (i .store .colors τ) e
     tinted e τ υ m = shown υ ∙ ap (λ υ. υ .colors) (sym (put-added e τ υ m .1)) ∙ add-tints e τ ∙ ap (λ Γ. tint Γ e) (sym (shown τ))
@@ -181,7 +200,9 @@ module _ (capacity : ℕ → ℕ) where
     fits-puts : (es : List Entry) (τ : Tables) → Fits capacity (addAll τ es) → Puts i τ es (addAll τ es)
     unfolding addAll
     fits-puts [] τ f = kept
-    fits-puts (e ∷ es) τ f = let m : i .store .put e τ ≡ some (add τ e) = put-is e τ ∙ rw (roomy e τ (all-back es (add τ e) f)) in m ◂ fits-puts es (add τ e) f
+    fits-puts (e ∷ es) τ f =
+        let m : i .store .put e τ ≡ some (add τ e) = put-is e τ ∙ rw (roomy e τ (all-back es (add τ e) f)) in
+        m ◂ fits-puts es (add τ e) f
 
     -- entries that are taken fit, and leave what they leave without a bound
     puts-fit : (es : List Entry) (τ υ : Tables) → Fits capacity τ → Puts i τ es υ → (υ ≡ addAll τ es) × Fits capacity υ
@@ -204,12 +225,31 @@ module _ (capacity : ℕ → ℕ) where
     -- ---- within the bounds exactly the grammar's texts are loaded, and the tables hold what they store
 
     -- what is loaded: the grammar has it, it is within the capacities, and the tables are those that it fills
-    pub loaded : (c : C) (js : Reading) (f : C) (υ : Tables) → load i c empty ≡ read js f υ → (p : List Token) × (WholeTo i c p f × (Sheet i 8 [] p js × (Bounded capacity js × (υ ≡ tablesOf js))))
+    pub loaded :
+        (c : C) (js : Reading) (f : C) (υ : Tables)
+        → load i c empty ≡ read js f υ
+        → (p : List Token) × (WholeTo i c p f × (Sheet i 8 [] p js × (Bounded capacity js × (υ ≡ tablesOf js))))
     loaded c js f υ q =
         let h = load-sound i tinted c empty js f υ q in
-        let g = puts-fit (entriesOf js) empty υ nothing-fits (h .1 .1 .0) in
-        (h .0, (h .1 .0, (subst (λ Γ. Sheet i 8 Γ (h .0) js) (shown empty) (h .1 .1 .1), (fits-bounded js (subst (Fits capacity) (g .0) (g .1)), g .0))))
+        let g = puts-fit (entriesOf js) empty υ nothing-fits (h .1 .1 .0) in (
+          h .0,
+          (
+            h .1 .0,
+            (
+              subst (λ Γ. Sheet i 8 Γ (h .0) js) (shown empty) (h .1 .1 .1),
+              (fits-bounded js (subst (Fits capacity) (g .0) (g .1)), g .0),
+            ),
+          ),
+        )
 
     -- what the grammar has, within the capacities, is loaded, and the tables are those that it fills
-    pub loads : Fueled i → (c f : C) (p : List Token) (js : Reading) → WholeTo i c p f → Sheet i 8 [] p js → Bounded capacity js → load i c empty ≡ read js f (tablesOf js)
-    loads fueled c f p js w d b = load-complete i tinted fueled c f empty (tablesOf js) w (fits-puts (entriesOf js) empty (bounded-fits js b)) (subst (λ Γ. Sheet i 8 Γ p js) (sym (shown empty)) d)
+    pub loads :
+        Fueled i
+        → (c f : C) (p : List Token) (js : Reading)
+        → WholeTo i c p f
+        → Sheet i 8 [] p js
+        → Bounded capacity js
+        → load i c empty ≡ read js f (tablesOf js)
+    loads fueled c f p js w d b =
+        load-complete i tinted fueled c f empty (tablesOf js) w (fits-puts (entriesOf js) empty (bounded-fits js b))
+        (subst (λ Γ. Sheet i 8 Γ p js) (sym (shown empty)) d)

@@ -24,7 +24,10 @@ module _ {C T P R : Type 0} (i : Input C T P R) where
   join here g = g
   join (e ▸ h) g = e ▸ join h g
 
-  pub uncons : {c e : C} {t : Token} {p : List Token} → Gives i c (t ∷ p) e → (d : C) × ((o : P) × ((i .next c ≡ token t o d) × Gives i d p e))
+  pub uncons :
+      {c e : C} {t : Token} {p : List Token}
+      → Gives i c (t ∷ p) e
+      → (d : C) × ((o : P) × ((i .next c ≡ token t o d) × Gives i d p e))
   uncons (e ▸ h) = (_, (_, (e, h)))
 
   pub split : (p : List Token) {q : List Token} {c e : C} → Gives i c (p ++ q) e → (d : C) × (Gives i c p d × Gives i d q e)
@@ -80,13 +83,21 @@ module _ {A C T R : Type 0} (S : A → C → T → Type 0) where
       let eu : υ ≡ φ = cc in
       subst (λ v. S y e v) eu (subst (λ v. S y v υ) ed (subst (λ v. S v d υ) ex h))
 
-  pub next-sound : {P : Type 0} (n : Next C P R) (τ : T) {f : C → Answer A C T R} {k : Token → P → C → Answer A C T R} → ((d : C) → n ≡ end d → Sound (f d)) → ((t : Token) (o : P) (d : C) → n ≡ token t o d → Sound (k t o d)) → Sound (on-next n (λ r. refused r τ) f k)
+  pub next-sound :
+      {P : Type 0} (n : Next C P R) (τ : T) {f : C → Answer A C T R} {k : Token → P → C → Answer A C T R}
+      → ((d : C) → n ≡ end d → Sound (f d))
+      → ((t : Token) (o : P) (d : C) → n ≡ token t o d → Sound (k t o d))
+      → Sound (on-next n (λ r. refused r τ) f k)
   unfolding on-next
   next-sound (broken r) τ hf hk = refused-sound r τ
   next-sound (end d) τ hf hk = hf d refl
   next-sound (token t o u) τ hf hk = hk t o u refl
 
-  pub option-sound : {B : Type 0} (o : Option B) {f : Answer A C T R} {k : B → Answer A C T R} → (o ≡ none → Sound f) → ((x : B) → o ≡ some x → Sound (k x)) → Sound (on-option o f k)
+  pub option-sound :
+      {B : Type 0} (o : Option B) {f : Answer A C T R} {k : B → Answer A C T R}
+      → (o ≡ none → Sound f)
+      → ((x : B) → o ≡ some x → Sound (k x))
+      → Sound (on-option o f k)
   unfolding on-option
   option-sound none hf hk = hf refl
   option-sound (some x) hf hk = hk x refl
@@ -94,32 +105,68 @@ module _ {A C T R : Type 0} (S : A → C → T → Type 0) where
   pub test-sound : (b : Bool) {f g : Answer A C T R} → (b ≡ true → Sound f) → (b ≡ false → Sound g) → Sound (cond b f g)
   test-sound b hf hg = test-holds Sound b _ _ hf hg
 
-  pub sign-sound : (g : Sign) (t : Token) {f h : Answer A C T R} → (t ≡ sign g → Sound f) → (isSign g t ≡ false → Sound h) → Sound (on-sign g t f h)
+  pub sign-sound :
+      (g : Sign) (t : Token) {f h : Answer A C T R}
+      → (t ≡ sign g → Sound f)
+      → (isSign g t ≡ false → Sound h)
+      → Sound (on-sign g t f h)
   sign-sound g t hf hg = sign-holds Sound g t _ _ hf hg
 
-  pub import-sound : (t : Token) {f : Name → Answer A C T R} {g : Answer A C T R} → ((a : Name) → t ≡ import a → Sound (f a)) → Sound g → Sound (on-import t f g)
+  pub import-sound :
+      (t : Token) {f : Name → Answer A C T R} {g : Answer A C T R}
+      → ((a : Name) → t ≡ import a → Sound (f a))
+      → Sound g
+      → Sound (on-import t f g)
   import-sound t hf hg = import-holds Sound t _ _ hf hg
 
-  pub identifier-sound : (t : Token) {f : Name → Answer A C T R} {g : Answer A C T R} → ((a : Name) → t ≡ identifier a → Sound (f a)) → Sound g → Sound (on-identifier t f g)
+  pub identifier-sound :
+      (t : Token) {f : Name → Answer A C T R} {g : Answer A C T R}
+      → ((a : Name) → t ≡ identifier a → Sound (f a))
+      → Sound g
+      → Sound (on-identifier t f g)
   identifier-sound t hf hg = identifier-holds Sound t _ _ hf hg
 
-  pub string-sound : (t : Token) {f : Name → Answer A C T R} {g : Answer A C T R} → ((a : Name) → t ≡ string a → Sound (f a)) → Sound g → Sound (on-string t f g)
+  pub string-sound :
+      (t : Token) {f : Name → Answer A C T R} {g : Answer A C T R}
+      → ((a : Name) → t ≡ string a → Sound (f a))
+      → Sound g
+      → Sound (on-string t f g)
   string-sound t hf hg = string-holds Sound t _ _ hf hg
 
-  pub colorRef-sound : (t : Token) {f : Name → Answer A C T R} {g : Answer A C T R} → ((a : Name) → t ≡ colorRef a → Sound (f a)) → Sound g → Sound (on-colorRef t f g)
+  pub colorRef-sound :
+      (t : Token) {f : Name → Answer A C T R} {g : Answer A C T R}
+      → ((a : Name) → t ≡ colorRef a → Sound (f a))
+      → Sound g
+      → Sound (on-colorRef t f g)
   colorRef-sound t hf hg = colorRef-holds Sound t _ _ hf hg
 
-  pub number-sound : (t : Token) {f : Float → Answer A C T R} {g : Answer A C T R} → ((x : Float) → t ≡ number x → Sound (f x)) → Sound g → Sound (on-number t f g)
+  pub number-sound :
+      (t : Token) {f : Float → Answer A C T R} {g : Answer A C T R}
+      → ((x : Float) → t ≡ number x → Sound (f x))
+      → Sound g
+      → Sound (on-number t f g)
   number-sound t hf hg = number-holds Sound t _ _ hf hg
 
-  pub color-sound : (t : Token) {f : Color → Answer A C T R} {g : Answer A C T R} → ((c : Color) → t ≡ color c → Sound (f c)) → Sound g → Sound (on-color t f g)
+  pub color-sound :
+      (t : Token) {f : Color → Answer A C T R} {g : Answer A C T R}
+      → ((c : Color) → t ≡ color c → Sound (f c))
+      → Sound g
+      → Sound (on-color t f g)
   color-sound t hf hg = color-holds Sound t _ _ hf hg
 
-  pub zoom-sound : (t : Token) {f : Option ℕ → Option ℕ → Answer A C T R} {g : Answer A C T R} → ((a b : Option ℕ) → t ≡ zoomRange a b → Sound (f a b)) → Sound g → Sound (on-zoomRange t f g)
+  pub zoom-sound :
+      (t : Token) {f : Option ℕ → Option ℕ → Answer A C T R} {g : Answer A C T R}
+      → ((a b : Option ℕ) → t ≡ zoomRange a b → Sound (f a b))
+      → Sound g
+      → Sound (on-zoomRange t f g)
   zoom-sound t hf hg = zoomRange-holds Sound t _ _ hf hg
 
   -- Q is what is known of the first reading
-  pub after-sound : {B : Type 0} {a : Answer B C T R} {k : B → C → T → Answer A C T R} (Q : B → C → T → Type 0) → ((x : B) (d : C) (υ : T) → a ≡ read x d υ → Q x d υ) → ((x : B) (d : C) (υ : T) → Q x d υ → Sound (k x d υ)) → Sound (after a k)
+  pub after-sound :
+      {B : Type 0} {a : Answer B C T R} {k : B → C → T → Answer A C T R} (Q : B → C → T → Type 0)
+      → ((x : B) (d : C) (υ : T) → a ≡ read x d υ → Q x d υ)
+      → ((x : B) (d : C) (υ : T) → Q x d υ → Sound (k x d υ))
+      → Sound (after a k)
   unfolding after
   after-sound {a} {k} Q ha hk = go a ha
     where
@@ -128,14 +175,26 @@ module _ {A C T R : Type 0} (S : A → C → T → Type 0) where
       go (read x d υ) h = hk x d υ (h x d υ refl)
 
   module _ {P : Type 0} (i : Input C T P R) where
-    pub token-sound : (c : C) (τ : T) {k : Token → P → C → Answer A C T R} → ((t : Token) (o : P) (d : C) → i .next c ≡ token t o d → Sound (k t o d)) → Sound (readMandatoryToken i c τ k)
+    pub token-sound :
+        (c : C) (τ : T) {k : Token → P → C → Answer A C T R}
+        → ((t : Token) (o : P) (d : C) → i .next c ≡ token t o d → Sound (k t o d))
+        → Sound (readMandatoryToken i c τ k)
     token-sound c τ hk = next-sound (i .next c) τ (λ d e. refused-sound _ _) hk
 
-    pub expect-sound : (g : Sign) (c : C) (τ : T) {k : C → Answer A C T R} → ((o : P) (d : C) → i .next c ≡ token (sign g) o d → Sound (k d)) → Sound (expectSimpleToken i g c τ k)
+    pub expect-sound :
+        (g : Sign) (c : C) (τ : T) {k : C → Answer A C T R}
+        → ((o : P) (d : C) → i .next c ≡ token (sign g) o d → Sound (k d))
+        → Sound (expectSimpleToken i g c τ k)
     expect-sound g c τ hk = token-sound c τ λ t o d e. sign-sound g t (λ q. hk o d (found i e q)) (λ q. refused-sound _ _)
 
-    pub name-sound : (c : C) (τ : T) {k : Name → C → Answer A C T R} → ((a : Name) (o : P) (d : C) → i .next c ≡ token (identifier a) o d → Sound (k a d)) → Sound (readIdentifier i c τ k)
+    pub name-sound :
+        (c : C) (τ : T) {k : Name → C → Answer A C T R}
+        → ((a : Name) (o : P) (d : C) → i .next c ≡ token (identifier a) o d → Sound (k a d))
+        → Sound (readIdentifier i c τ k)
     name-sound c τ hk = token-sound c τ λ t o d e. identifier-sound t (λ a q. hk a o d (found i e q)) (refused-sound _ _)
 
-    pub keep-sound : (e : Entry) (c : C) (τ : T) {k : T → Answer A C T R} → ((υ : T) → i .store .put e τ ≡ some υ → Sound (k υ)) → Sound (keep i e c τ k)
+    pub keep-sound :
+        (e : Entry) (c : C) (τ : T) {k : T → Answer A C T R}
+        → ((υ : T) → i .store .put e τ ≡ some υ → Sound (k υ))
+        → Sound (keep i e c τ k)
     keep-sound e c τ hk = option-sound (i .store .put e τ) (λ e. refused-sound _ _) hk

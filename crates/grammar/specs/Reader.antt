@@ -164,7 +164,8 @@ module _ {C T P R : Type 0} (i : Input C T P R) where
       (unexpectedToken o τ))))
       (on-string t (λ a. expectSimpleToken semiColon d τ λ e. read (quoted a) e τ)
       (on-color t (λ x. expectSimpleToken semiColon d τ λ e. read (colored x) e τ)
-      (on-colorRef t (λ n. on-option (colorNamed n Γ) (fail i colorReference (i .reached d) τ) λ x. expectSimpleToken semiColon d τ λ e. read (colored x) e τ)
+      (on-colorRef t
+      (λ n. on-option (colorNamed n Γ) (fail i colorReference (i .reached d) τ) λ x. expectSimpleToken semiColon d τ λ e. read (colored x) e τ)
       (on-number t (λ x. after (readNumberList k x d τ) λ xs e τ. read (numbers xs) e τ)
       (unexpectedToken o τ)))))
 
@@ -226,7 +227,9 @@ module _ {C T P R : Type 0} (i : Input C T P R) where
   keepColor n t c τ k = on-option (colorOf t) (k τ) λ x. keep i (colorEntry n x) c τ k
 
   abbrev pub readColorDef : Name → C → T → Answer Reading C T R
-  readColorDef n c τ = expectSimpleToken colon c τ λ d. readMandatoryToken d τ λ t o e. expectSimpleToken semiColon e τ λ f. keepColor n t f τ λ τ. read (definition n t) f τ
+  readColorDef n c τ =
+      expectSimpleToken colon c τ λ d. readMandatoryToken d τ λ t o e. expectSimpleToken semiColon e τ λ f. keepColor n
+      t f τ λ τ. read (definition n t) f τ
 
   abbrev pub before : Reading → Answer Reading C T R → Answer Reading C T R
   before js a = after a λ ks c τ. read (js ++ ks) c τ

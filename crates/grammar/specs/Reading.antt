@@ -68,7 +68,9 @@ abbrev pub withZoom : Selector → Option ℕ → Option ℕ → Selector
 withZoom σ a b = record { objectType = σ .objectType; minZoom = a; maxZoom = b; tests = σ .tests; layerId = σ .layerId }
 
 abbrev pub withTest : Selector → Test → Selector
-withTest σ t = record { objectType = σ .objectType; minZoom = σ .minZoom; maxZoom = σ .maxZoom; tests = σ .tests ++ (t ∷ []); layerId = σ .layerId }
+withTest σ t =
+    record
+    { objectType = σ .objectType; minZoom = σ .minZoom; maxZoom = σ .maxZoom; tests = σ .tests ++ (t ∷ []); layerId = σ .layerId }
 
 abbrev pub withLayer : Selector → Name → Selector
 withLayer σ a = record { objectType = σ .objectType; minZoom = σ .minZoom; maxZoom = σ .maxZoom; tests = σ .tests; layerId = some a }

@@ -24,7 +24,9 @@ module _ (digitsOf : Float → Bytes) where
   layerOf (some a) = some (a .bytes)
 
   abbrev pub selectorOf : Selector → Selector′
-  selectorOf σ = record { objectType = σ .objectType; minZoom = σ .minZoom; maxZoom = σ .maxZoom; tests = map testOf (σ .tests); layerId = layerOf (σ .layerId) }
+  selectorOf σ =
+      record
+      { objectType = σ .objectType; minZoom = σ .minZoom; maxZoom = σ .maxZoom; tests = map testOf (σ .tests); layerId = layerOf (σ .layerId) }
 
   abbrev pub valueOf : Value → Value′
   valueOf (word a) = identifier (a .bytes)

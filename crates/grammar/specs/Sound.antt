@@ -33,11 +33,20 @@ module _ {B : Type 0} (P : B → Type 0) where
   some-tells {x} h y e = let q : x ≡ y = cc in subst P q h
 
 module _ {B : Type 0} (P : List Token → B → Type 0) where
-  want-tells : (c : Sign) (ts : List Token) (k : List Token → Option B) → ((us : List Token) → Tells (P (sign c ∷ us)) (k us)) → Tells (P ts) (want c ts k)
+  want-tells :
+      (c : Sign) (ts : List Token) (k : List Token → Option B)
+      → ((us : List Token) → Tells (P (sign c ∷ us)) (k us))
+      → Tells (P ts) (want c ts k)
   want-tells c [] k h = none-tells _
-  want-tells c (t ∷ ts) k h = sign-holds (Tells (P (t ∷ ts))) c t _ _ (λ q. subst (λ t. Tells (P (t ∷ ts)) (k ts)) (sym q) (h ts)) (λ n. none-tells _)
+  want-tells c (t ∷ ts) k h =
+      sign-holds (Tells (P (t ∷ ts))) c t _ _
+      (λ q. subst (λ t. Tells (P (t ∷ ts)) (k ts)) (sym q) (h ts))
+      (λ n. none-tells _)
 
-  word-tells : (a : Bytes) (ts : List Token) (k : List Token → Option B) → ((n : Name) → n .bytes ≡ a → (us : List Token) → Tells (P (identifier n ∷ us)) (k us)) → Tells (P ts) (wantWord a ts k)
+  word-tells :
+      (a : Bytes) (ts : List Token) (k : List Token → Option B)
+      → ((n : Name) → n .bytes ≡ a → (us : List Token) → Tells (P (identifier n ∷ us)) (k us))
+      → Tells (P ts) (wantWord a ts k)
   word-tells a [] k h = none-tells _
   word-tells a (t ∷ ts) k h = identifier-holds (Tells (P (t ∷ ts))) t _ _
       (λ b q. test-holds (Tells (P (t ∷ ts))) (same (b .bytes) a) _ _
@@ -45,7 +54,10 @@ module _ {B : Type 0} (P : List Token → B → Type 0) where
       (λ z. none-tells _))
       (none-tells _)
 
-  string-tells : (a : Bytes) (ts : List Token) (k : List Token → Option B) → ((n : Name) → n .bytes ≡ a → (us : List Token) → Tells (P (string n ∷ us)) (k us)) → Tells (P ts) (wantString a ts k)
+  string-tells :
+      (a : Bytes) (ts : List Token) (k : List Token → Option B)
+      → ((n : Name) → n .bytes ≡ a → (us : List Token) → Tells (P (string n ∷ us)) (k us))
+      → Tells (P ts) (wantString a ts k)
   string-tells a [] k h = none-tells _
   string-tells a (t ∷ ts) k h = string-holds (Tells (P (t ∷ ts))) t _ _
       (λ b q. test-holds (Tells (P (t ∷ ts))) (same (b .bytes) a) _ _
@@ -53,7 +65,12 @@ module _ {B : Type 0} (P : List Token → B → Type 0) where
       (λ z. none-tells _))
       (none-tells _)
 
-suffix-tells : (a b : Name) → a .bytes ≡ ascii "prop" → b .bytes ≡ ascii "width" → (ts : List Token) → Tells (IsDelta (sign leftParen ∷ identifier a ∷ sign leftParen ∷ string b ∷ sign rightParen ∷ ts)) (suffix ts)
+suffix-tells :
+    (a b : Name)
+    → a .bytes ≡ ascii "prop"
+    → b .bytes ≡ ascii "width"
+    → (ts : List Token)
+    → Tells (IsDelta (sign leftParen ∷ identifier a ∷ sign leftParen ∷ string b ∷ sign rightParen ∷ ts)) (suffix ts)
 suffix-tells a b ea eb [] = none-tells _
 suffix-tells a b ea eb (t ∷ []) = sign-holds (Tells _) rightParen t _ _ (λ q. rw q (some-tells _ (zeroDelta a b ea eb))) (λ n. none-tells _)
 suffix-tells a b ea eb (t ∷ u ∷ []) = sign-holds (Tells _) rightParen u _ _
@@ -141,7 +158,10 @@ test-tints Γ (numeric o a x) = refl
 tests-tint : (Γ : Colors) (ts : List Test) → tints Γ (testsEntries ts) ≡ Γ
 unfolding tints testsEntries
 tests-tint Γ [] = refl
-tests-tint Γ (t ∷ ts) = tints-append Γ (testEntries t) (testsEntries ts) ∙ ap (λ Γ. tints Γ (testsEntries ts)) (test-tints Γ t) ∙ tests-tint Γ ts
+tests-tint Γ (t ∷ ts) =
+    tints-append Γ (testEntries t) (testsEntries ts)
+    ∙ ap (λ Γ. tints Γ (testsEntries ts)) (test-tints Γ t)
+    ∙ tests-tint Γ ts
 
 numbers-tint : (Γ : Colors) (xs : List Float) → tints Γ (numbersEntries xs) ≡ Γ
 unfolding tints numbersEntries
@@ -159,27 +179,41 @@ value-tints Γ (widthDelta x) = refl
 properties-tint : (Γ : Colors) (ps : List Property) → tints Γ (propertiesEntries ps) ≡ Γ
 unfolding tints propertiesEntries
 properties-tint Γ [] = refl
-properties-tint Γ (p ∷ ps) = tints-append Γ (valueEntries (p .value)) (propertyEntry p ∷ propertiesEntries ps) ∙ ap (λ Γ. tints Γ (propertiesEntries ps)) (value-tints Γ (p .value)) ∙ properties-tint Γ ps
+properties-tint Γ (p ∷ ps) =
+    tints-append Γ (valueEntries (p .value)) (propertyEntry p ∷ propertiesEntries ps)
+    ∙ ap (λ Γ. tints Γ (propertiesEntries ps)) (value-tints Γ (p .value))
+    ∙ properties-tint Γ ps
 
 selectors-tint : (Γ : Colors) (ss : List Selector) (es : List Entry) → tints Γ (selectorsEntries ss es) ≡ tints Γ es
 unfolding tints selectorsEntries
 selectors-tint Γ [] es = refl
-selectors-tint Γ (σ ∷ ss) es = tints-append Γ (testsEntries (σ .tests)) (selectorEntry σ ∷ selectorsEntries ss es) ∙ ap (λ Γ. tints Γ (selectorsEntries ss es)) (tests-tint Γ (σ .tests)) ∙ selectors-tint Γ ss es
+selectors-tint Γ (σ ∷ ss) es =
+    tints-append Γ (testsEntries (σ .tests)) (selectorEntry σ ∷ selectorsEntries ss es)
+    ∙ ap (λ Γ. tints Γ (selectorsEntries ss es)) (tests-tint Γ (σ .tests))
+    ∙ selectors-tint Γ ss es
 
 rule-tints : (Γ : Colors) (r : Rule) → tints Γ (ruleEntries r) ≡ Γ
 unfolding tints ruleEntries
-rule-tints Γ r = selectors-tint Γ (r .selectors) (propertiesEntries (r .properties) ++ (ruleEntry ∷ [])) ∙ tints-append Γ (propertiesEntries (r .properties)) (ruleEntry ∷ []) ∙ properties-tint Γ (r .properties)
+rule-tints Γ r =
+    selectors-tint Γ (r .selectors) (propertiesEntries (r .properties) ++ (ruleEntry ∷ []))
+    ∙ tints-append Γ (propertiesEntries (r .properties)) (ruleEntry ∷ [])
+    ∙ properties-tint Γ (r .properties)
 
 pub reading-tints : (Γ : Colors) (js : Reading) → tints Γ (entriesOf js) ≡ colorsAfter Γ js
 unfolding tints entriesOf colorsAfter
 reading-tints Γ [] = refl
-reading-tints Γ (ruleItem r ∷ js) = tints-append Γ (ruleEntries r) (entriesOf js) ∙ ap (λ Γ. tints Γ (entriesOf js)) (rule-tints Γ r) ∙ reading-tints Γ js
+reading-tints Γ (ruleItem r ∷ js) =
+    tints-append Γ (ruleEntries r) (entriesOf js)
+    ∙ ap (λ Γ. tints Γ (entriesOf js)) (rule-tints Γ r)
+    ∙ reading-tints Γ js
 reading-tints Γ (colorItem n c ∷ js) = reading-tints (define Γ n c) js
 
 pub entries-append : (js ks : Reading) → entriesOf (js ++ ks) ≡ entriesOf js ++ entriesOf ks
 unfolding entriesOf
 entries-append [] ks = refl
-entries-append (ruleItem r ∷ js) ks = ap (λ es. ruleEntries r ++ es) (entries-append js ks) ∙ sym (append-assoc (ruleEntries r) (entriesOf js) (entriesOf ks))
+entries-append (ruleItem r ∷ js) ks =
+    ap (λ es. ruleEntries r ++ es) (entries-append js ks)
+    ∙ sym (append-assoc (ruleEntries r) (entriesOf js) (entriesOf ks))
 entries-append (colorItem n c ∷ js) ks = ap (λ es. colorEntry n c ∷ es) (entries-append js ks)
 
 -- the sign behind a selector's parts
@@ -193,66 +227,125 @@ module _ {C T P R : Type 0} (i : Input C T P R) where
   abbrev Tests : C → T → Test → C → T → Type 0
   Tests c τ = Phrase i (IsTest (i .countable)) testEntries c τ
 
-  operand-sound : {p : List Token} {a : Name} {g : Sign} {op : TextTest} {c₀ c d : C} {o : P} {τ : T} → IsKey p a → Gives i c₀ p c → i .next c ≡ token (sign g) o d → IsEquality g op → Sound (Tests c₀ τ) (readOperand i op a d τ)
+  operand-sound :
+      {p : List Token} {a : Name} {g : Sign} {op : TextTest} {c₀ c d : C} {o : P} {τ : T}
+      → IsKey p a
+      → Gives i c₀ p c
+      → i .next c ≡ token (sign g) o d
+      → IsEquality g op
+      → Sound (Tests c₀ τ) (readOperand i op a d τ)
   operand-sound {d = d} {τ = τ} y g e z = token-sound _ i d τ λ t o v f.
-      identifier-sound _ t (λ b q. expect-sound _ i rightBracket v τ λ o w x. keep-sound _ i _ w τ λ υ m. read-sound _ (_, (join i g (e ▸ found i f q ▸ x ▸ here), (m ◂ kept, compared y z (plainOperand b)))))
+      identifier-sound _ t
+      (λ b q.
+      expect-sound _ i rightBracket v τ λ o w x. keep-sound _ i _ w τ λ υ m. read-sound _
+      (_, (join i g (e ▸ found i f q ▸ x ▸ here), (m ◂ kept, compared y z (plainOperand b)))))
       (number-sound _ t (λ x q. expect-sound _ i rightBracket v τ λ o w u. test-sound _ (i .countable x)
-      (λ n. keep-sound _ i _ w τ λ υ m. keep-sound _ i _ w υ λ φ l. read-sound _ (_, (join i g (e ▸ found i f q ▸ u ▸ here), (m ◂ l ◂ kept, compared y z (digitsOperand x n)))))
+      (λ n.
+      keep-sound _ i _ w τ λ υ m. keep-sound _ i _ w υ λ φ l. read-sound _
+      (_, (join i g (e ▸ found i f q ▸ u ▸ here), (m ◂ l ◂ kept, compared y z (digitsOperand x n)))))
       (λ n. refused-sound _ _ _))
       (refused-sound _ _ _))
 
-  number-test-sound : {p : List Token} {a : Name} {g : Sign} {op : NumericTest} {c₀ c d : C} {o : P} {τ : T} → IsKey p a → Gives i c₀ p c → i .next c ≡ token (sign g) o d → IsComparison g op → Sound (Tests c₀ τ) (readNumber i op a d τ)
+  number-test-sound :
+      {p : List Token} {a : Name} {g : Sign} {op : NumericTest} {c₀ c d : C} {o : P} {τ : T}
+      → IsKey p a
+      → Gives i c₀ p c
+      → i .next c ≡ token (sign g) o d
+      → IsComparison g op
+      → Sound (Tests c₀ τ) (readNumber i op a d τ)
   number-test-sound {d = d} {τ = τ} y g e z = token-sound _ i d τ λ t o v f.
-      number-sound _ t (λ x q. expect-sound _ i rightBracket v τ λ o w u. keep-sound _ i _ w τ λ υ m. keep-sound _ i _ w υ λ φ l. read-sound _ (_, (join i g (e ▸ found i f q ▸ u ▸ here), (m ◂ l ◂ kept, measured y z x))))
+      number-sound _ t
+      (λ x q.
+      expect-sound _ i rightBracket v τ λ o w u. keep-sound _ i _ w τ λ υ m. keep-sound _ i _ w υ λ φ l. read-sound
+      _
+      (_, (join i g (e ▸ found i f q ▸ u ▸ here), (m ◂ l ◂ kept, measured y z x))))
       (refused-sound _ _ _)
 
-  plain-sound : {p : List Token} {a : Name} {c₀ c d : C} {o : P} {τ : T} {t : Token} → IsKey p a → Gives i c₀ p c → i .next c ≡ token t o d → Sound (Tests c₀ τ) (plainTest i a τ t o d)
+  plain-sound :
+      {p : List Token} {a : Name} {c₀ c d : C} {o : P} {τ : T} {t : Token}
+      → IsKey p a
+      → Gives i c₀ p c
+      → i .next c ≡ token t o d
+      → Sound (Tests c₀ τ) (plainTest i a τ t o d)
   unfolding plainTest
   plain-sound {d = d} {τ = τ} {t = t} y g e =
       option-sound _ (toBinaryStringTestType t)
       (λ n. option-sound _ (toBinaryNumericTestType t)
       (λ n. sign-sound _ rightBracket t (λ q. keep-sound _ i _ d τ λ υ m. read-sound _ (_, (join i g (found i e q ▸ here), (m ◂ kept, there y)))) λ n.
       sign-sound _ questionMark t (λ q. token-sound _ i d τ λ t o v f.
-      sign-sound _ rightBracket t (λ r. keep-sound _ i _ v τ λ υ m. read-sound _ (_, (join i g (found i e q ▸ found i f r ▸ here), (m ◂ kept, trueTag y)))) λ n.
-      sign-sound _ bang t (λ r. expect-sound _ i rightBracket v τ λ o w z. keep-sound _ i _ w τ λ υ m. read-sound _ (_, (join i g (found i e q ▸ found i f r ▸ z ▸ here), (m ◂ kept, falseTag y)))) λ n.
+      sign-sound _ rightBracket t
+      (λ r.
+      keep-sound _ i _ v τ λ υ m. read-sound _
+      (_, (join i g (found i e q ▸ found i f r ▸ here), (m ◂ kept, trueTag y)))) λ n.
+      sign-sound _ bang t
+      (λ r.
+      expect-sound _ i rightBracket v τ λ o w z. keep-sound _ i _ w τ λ υ m. read-sound _
+      (_, (join i g (found i e q ▸ found i f r ▸ z ▸ here), (m ◂ kept, falseTag y)))) λ n.
       refused-sound _ _ _)
       λ n. refused-sound _ _ _)
       (λ op q. let h = comparison-tells t op q in number-test-sound y g (found i e (h .1 .0)) (h .1 .1)))
       (λ op q. let h = equality-tells t op q in operand-sound y g (found i e (h .1 .0)) (h .1 .1))
 
-  bang-sound : {p : List Token} {a : Name} {c₀ c d : C} {o : P} {τ : T} {t : Token} → IsName p a → Gives i c₀ (sign bang ∷ p) c → i .next c ≡ token t o d → Sound (Tests c₀ τ) (bangTest i a τ t o d)
+  bang-sound :
+      {p : List Token} {a : Name} {c₀ c d : C} {o : P} {τ : T} {t : Token}
+      → IsName p a
+      → Gives i c₀ (sign bang ∷ p) c
+      → i .next c ≡ token t o d
+      → Sound (Tests c₀ τ) (bangTest i a τ t o d)
   unfolding bangTest
   bang-sound {d = d} {τ = τ} {t = t} y g e =
-      sign-sound _ rightBracket t (λ q. keep-sound _ i _ d τ λ υ m. read-sound _ (_, (join i g (found i e q ▸ here), (m ◂ kept, missing y)))) λ n.
+      sign-sound _ rightBracket t
+      (λ q. keep-sound _ i _ d τ λ υ m. read-sound _ (_, (join i g (found i e q ▸ here), (m ◂ kept, missing y))))
+      λ n.
       sign-sound _ questionMark t (λ q. token-sound _ i d τ λ t o v f.
-      sign-sound _ rightBracket t (λ r. keep-sound _ i _ v τ λ υ m. read-sound _ (_, (join i g (found i e q ▸ found i f r ▸ here), (m ◂ kept, untrue y)))) λ n.
+      sign-sound _ rightBracket t
+      (λ r.
+      keep-sound _ i _ v τ λ υ m. read-sound _
+      (_, (join i g (found i e q ▸ found i f r ▸ here), (m ◂ kept, untrue y)))) λ n.
       refused-sound _ _ _)
       λ n. refused-sound _ _ _
 
   key-sound : {A : Type 0} (S : A → C → T → Type 0) (a : Name) (c : C) (τ : T) (k : Name → T → Token → P → C → Answer A C T R)
       → ((t : Token) (o : P) (d : C) → i .next c ≡ token t o d → Sound S (k a τ t o d))
-      → ((b : Name) (t : Token) (o : P) (d e : C) → Gives i c (sign colon ∷ identifier b ∷ []) d → i .next d ≡ token t o e → Sound S (k (joined a b) τ t o e))
+      →
+      ((b : Name) (t : Token) (o : P) (d e : C) → Gives i c (sign colon ∷ identifier b ∷ []) d → i .next d ≡ token t o
+      e → Sound S (k (joined a b) τ t o e))
       → Sound S (readKey i a c τ k)
   key-sound S a c τ k h₁ h₂ = token-sound _ i c τ λ t o u e.
-      sign-sound _ colon t (λ q. name-sound _ i u τ λ b o v f. token-sound _ i v τ λ t o w z. h₂ b t o v w (found i e q ▸ f ▸ here) z) λ n. h₁ t o u e
+      sign-sound _ colon t
+      (λ q. name-sound _ i u τ λ b o v f. token-sound _ i v τ λ t o w z. h₂ b t o v w (found i e q ▸ f ▸ here) z)
+      λ n. h₁ t o u e
 
   pub test-reads : (c : C) (τ : T) → Sound (Tests c τ) (readTest i c τ)
   unfolding readTest
   test-reads c τ = token-sound _ i c τ λ t o u e.
-      identifier-sound _ t (λ a q. key-sound _ a u τ (plainTest i) (λ t o v f. plain-sound (named (single a)) (found i e q ▸ here) f) (λ b t o v w g f. plain-sound (named (double a b)) (found i e q ▸ g) f))
-      (string-sound _ t (λ a q. key-sound _ a u τ (plainTest i) (λ t o v f. plain-sound (quotedKey a) (found i e q ▸ here) f) (λ b t o v w g f. plain-sound (quotedDouble a b) (found i e q ▸ g) f))
+      identifier-sound _ t
+      (λ a q.
+      key-sound _ a u τ (plainTest i)
+      (λ t o v f. plain-sound (named (single a)) (found i e q ▸ here) f)
+      (λ b t o v w g f. plain-sound (named (double a b)) (found i e q ▸ g) f))
+      (string-sound _ t
+      (λ a q.
+      key-sound _ a u τ (plainTest i)
+      (λ t o v f. plain-sound (quotedKey a) (found i e q ▸ here) f)
+      (λ b t o v w g f. plain-sound (quotedDouble a b) (found i e q ▸ g) f))
       (sign-sound _ bang t (λ q. name-sound _ i u τ λ a o v z. key-sound _ a v τ (bangTest i) (λ t o w f. bang-sound (single a) (found i e q ▸ z ▸ here) f) (λ b t o w x g f. bang-sound (double a b) (found i e q ▸ z ▸ g) f)) λ n.
       refused-sound _ _ _))
 
   -- ---- properties
 
-  numbers-read : (k : ℕ) (x : Float) (c : C) (τ : T) → Sound (Phrase i (λ p xs. IsNumbers (number x ∷ p) xs) numbersEntries c τ) (readNumberList i k x c τ)
+  numbers-read :
+      (k : ℕ) (x : Float) (c : C) (τ : T)
+      → Sound (Phrase i (λ p xs. IsNumbers (number x ∷ p) xs) numbersEntries c τ) (readNumberList i k x c τ)
   unfolding readNumberList numbersEntries
   numbers-read zero x c τ = refused-sound _ _ _
   numbers-read (suc k) x c τ = keep-sound _ i _ c τ λ υ m. token-sound _ i c υ λ t o u e.
       sign-sound _ semiColon t (λ q. read-sound _ (_, (found i e q ▸ here, (m ◂ kept, lastNumber x)))) λ n.
       sign-sound _ comma t (λ q. token-sound _ i u υ λ t o v f.
-      number-sound _ t (λ y r. after-sound _ _ (numbers-read k y v υ) λ ys w φ h. read-sound _ (_, (found i e q ▸ found i f r ▸ h .1 .0, (m ◂ h .1 .1 .0, moreNumbers x (h .1 .1 .1)))))
+      number-sound _ t
+      (λ y r.
+      after-sound _ _ (numbers-read k y v υ) λ ys w φ h. read-sound _
+      (_, (found i e q ▸ found i f r ▸ h .1 .0, (m ◂ h .1 .1 .0, moreNumbers x (h .1 .1 .1)))))
       (refused-sound _ _ _))
       λ n. refused-sound _ _ _
 
@@ -271,9 +364,16 @@ module _ {C T P R : Type 0} (i : Input C T P R) where
   same-tables : {τ υ φ : T} {es : List Entry} → τ ≡ υ → Puts i υ es φ → Puts i τ es φ
   same-tables {φ} {es} e h = subst (λ τ. Puts i τ es φ) (sym e) h
 
-  eval-reads : {Γ : Colors} (k : ℕ) (a : Name) (o : P) (c d : C) (τ : T) → a .bytes ≡ ascii "eval" → i .next c ≡ token (identifier a) o d → Sound (Phrase i (IsValue Γ) valueEntries c τ) (readSimpleEval i k o d τ)
+  eval-reads :
+      {Γ : Colors} (k : ℕ) (a : Name) (o : P) (c d : C) (τ : T)
+      → a .bytes ≡ ascii "eval"
+      → i .next c ≡ token (identifier a) o d
+      → Sound (Phrase i (IsValue Γ) valueEntries c τ) (readSimpleEval i k o d τ)
   unfolding readSimpleEval
-  eval-reads k a o c d τ z e = after-sound _ _ (tokens-read k d τ) λ ts v υ h. option-sound _ (widthIncrement ts) (λ n. refused-sound _ _ _) λ x w. keep-sound _ i _ v υ λ φ m.
+  eval-reads k a o c d τ z e =
+      after-sound _ _ (tokens-read k d τ) λ ts v υ h. option-sound _ (widthIncrement ts)
+      (λ n. refused-sound _ _ _)
+      λ x w. keep-sound _ i _ v υ λ φ m.
       read-sound _ (_, (e ▸ join i (h .0 .1 .1 .0) (h .0 .1 .1 .1 ▸ here), (same-tables (h .1) (m ◂ kept), eval a z (delta-tells ts x w))))
 
   pub value-reads : (k : ℕ) (Γ : Colors) (c : C) (τ : T) → Sound (Phrase i (IsValue Γ) valueEntries c τ) (readPropertyValue i k Γ c τ)
@@ -282,35 +382,60 @@ module _ {C T P R : Type 0} (i : Input C T P R) where
       identifier-sound _ t (λ a q. test-sound _ (same (a .bytes) (ascii "eval"))
       (λ z. eval-reads k a o c u τ (same-true (a .bytes) (ascii "eval") z) (found i e q))
       (λ z. token-sound _ i u τ λ t o v f.
-      sign-sound _ colon t (λ r. name-sound _ i v τ λ b o w g. expect-sound _ i semiColon w τ λ o x y. read-sound _ (_, (found i e q ▸ found i f r ▸ g ▸ y ▸ here, (kept, twoWords a b z)))) λ n.
+      sign-sound _ colon t
+      (λ r.
+      name-sound _ i v τ λ b o w g. expect-sound _ i semiColon w τ λ o x y. read-sound _
+      (_, (found i e q ▸ found i f r ▸ g ▸ y ▸ here, (kept, twoWords a b z)))) λ n.
       sign-sound _ semiColon t (λ r. read-sound _ (_, (found i e q ▸ found i f r ▸ here, (kept, oneWord a z)))) λ n.
       refused-sound _ _ _))
       (string-sound _ t (λ a q. expect-sound _ i semiColon u τ λ o v f. read-sound _ (_, (found i e q ▸ f ▸ here, (kept, aString a))))
       (color-sound _ t (λ c q. expect-sound _ i semiColon u τ λ o v f. read-sound _ (_, (found i e q ▸ f ▸ here, (kept, aColor c))))
-      (colorRef-sound _ t (λ n q. option-sound _ (colorNamed n Γ) (λ z. refused-sound _ _ _) λ c l. expect-sound _ i semiColon u τ λ o v f. read-sound _ (_, (found i e q ▸ f ▸ here, (kept, reference n c l))))
-      (number-sound _ t (λ x q. after-sound _ _ (numbers-read k x u τ) λ xs v υ h. read-sound _ (_, (found i e q ▸ h .1 .0, (h .1 .1 .0, list (h .1 .1 .1)))))
+      (colorRef-sound _ t
+      (λ n q.
+      option-sound _ (colorNamed n Γ)
+      (λ z. refused-sound _ _ _)
+      λ c l. expect-sound _ i semiColon u τ λ o v f. read-sound _
+      (_, (found i e q ▸ f ▸ here, (kept, reference n c l))))
+      (number-sound _ t
+      (λ x q.
+      after-sound _ _ (numbers-read k x u τ) λ xs v υ h. read-sound _
+      (_, (found i e q ▸ h .1 .0, (h .1 .1 .0, list (h .1 .1 .1)))))
       (refused-sound _ _ _)))))
 
-  properties-read : (k : ℕ) (Γ : Colors) (c : C) (τ : T) → Sound (Phrase i (IsProperties Γ) propertiesEntries c τ) (readProperties i k Γ c τ)
+  properties-read :
+      (k : ℕ) (Γ : Colors) (c : C) (τ : T)
+      → Sound (Phrase i (IsProperties Γ) propertiesEntries c τ) (readProperties i k Γ c τ)
   unfolding readProperties propertiesEntries
   properties-read zero Γ c τ = refused-sound _ _ _
   properties-read (suc k) Γ c τ = token-sound _ i c τ λ t o u e.
       identifier-sound _ t (λ a q. expect-sound _ i colon u τ λ o v f.
       after-sound _ _ (value-reads k Γ v τ) λ x w υ h. keep-sound _ i _ w υ λ φ m. after-sound _ _ (properties-read k Γ w φ) λ ps z ψ g.
-      read-sound _ (_, (found i e q ▸ f ▸ join i (h .1 .0) (g .1 .0), (both i (h .1 .1 .0) (m ◂ g .1 .1 .0), assign a (h .1 .1 .1) (g .1 .1 .1)))))
+      read-sound _ (
+        _,
+        (
+          found i e q ▸ f ▸ join i (h .1 .0) (g .1 .0),
+          (both i (h .1 .1 .0) (m ◂ g .1 .1 .0), assign a (h .1 .1 .1) (g .1 .1 .1)),
+        ),
+      ))
       (sign-sound _ rightBrace t (λ q. read-sound _ (_, (found i e q ▸ here, (kept, closed)))) λ n.
       refused-sound _ _ _)
 
   -- ---- selectors
 
   abbrev Parts : Selector → C → T → Selector × Bool → C → T → Type 0
-  Parts σ c τ y d υ = (p : List Token) × (Upto (ender (y .1)) c p d × ((h : HasParts (i .countable) σ p (y .0)) × Puts i τ (testsEntries (added h) ++ (selectorEntry (y .0) ∷ [])) υ))
+  Parts σ c τ y d υ =
+      (p : List Token) ×
+      (Upto (ender (y .1)) c p d ×
+      ((h : HasParts (i .countable) σ p (y .0)) × Puts i τ (testsEntries (added h) ++ (selectorEntry (y .0) ∷ []))
+      υ))
 
   parts-read : (k : ℕ) (σ : Selector) (c : C) (τ : T) → Sound (Parts σ c τ) (readParts i k σ c τ)
   unfolding readParts added testsEntries
   parts-read zero σ c τ = refused-sound _ _ _
   parts-read (suc k) σ c τ = token-sound _ i c τ λ t o u e.
-      sign-sound _ leftBrace t (λ q. keep-sound _ i _ u τ λ υ m. read-sound _ ([], ((c, (o, (here, found i e q))), (nothing, m ◂ kept)))) λ n.
+      sign-sound _ leftBrace t
+      (λ q. keep-sound _ i _ u τ λ υ m. read-sound _ ([], ((c, (o, (here, found i e q))), (nothing, m ◂ kept))))
+      λ n.
       sign-sound _ comma t (λ q. keep-sound _ i _ u τ λ υ m. read-sound _ ([], ((c, (o, (here, found i e q))), (nothing, m ◂ kept)))) λ n.
       zoom-sound _ t (λ a b q. λ y v υ r. let h = parts-read k (withZoom σ a b) u τ y v υ r in
       (_, ((h .1 .0 .0, (h .1 .0 .1 .0, (found i e q ▸ h .1 .0 .1 .1 .0, h .1 .0 .1 .1 .1))), (zooms a b (h .1 .1 .0), h .1 .1 .1))))
@@ -320,7 +445,9 @@ module _ {C T P R : Type 0} (i : Input C T P R) where
           (h .1 .0 .0, (h .1 .0 .1 .0, (found i e q ▸ join i (g .1 .0) (h .1 .0 .1 .1 .0), h .1 .0 .1 .1 .1))),
           (
             tested (g .1 .1 .1) (h .1 .1 .0),
-            rw (append-assoc (testEntries x) (testsEntries (added (h .1 .1 .0))) (selectorEntry (y .0) ∷ [])) (both i (g .1 .1 .0) (h .1 .1 .1)),
+            rw
+                (append-assoc (testEntries x) (testsEntries (added (h .1 .1 .0))) (selectorEntry (y .0) ∷ []))
+                (both i (g .1 .1 .0) (h .1 .1 .1)),
           ),
         ),
       )) λ n.
@@ -332,24 +459,43 @@ module _ {C T P R : Type 0} (i : Input C T P R) where
 
   -- a selector and the sign behind it; its entries stand before any others
   abbrev Selectors : C → T → Selector × Bool → C → T → Type 0
-  Selectors c τ y d υ = (p : List Token) × (Upto (ender (y .1)) c p d × (IsSelector (i .countable) p (y .0) × Puts i τ (testsEntries (y .0 .tests) ++ (selectorEntry (y .0) ∷ [])) υ))
+  Selectors c τ y d υ =
+      (p : List Token) ×
+      (Upto (ender (y .1)) c p d ×
+      (IsSelector (i .countable) p (y .0) × Puts i τ (testsEntries (y .0 .tests) ++ (selectorEntry (y .0) ∷ [])) υ))
 
-  selector-puts : (y : ObjectType) (σ : Selector) {p : List Token} {τ υ : T} (h : HasParts (i .countable) (bare y) p σ) → Puts i τ (testsEntries (added h) ++ (selectorEntry σ ∷ [])) υ → Puts i τ (testsEntries (σ .tests) ++ (selectorEntry σ ∷ [])) υ
+  selector-puts :
+      (y : ObjectType) (σ : Selector) {p : List Token} {τ υ : T} (h : HasParts (i .countable) (bare y) p σ)
+      → Puts i τ (testsEntries (added h) ++ (selectorEntry σ ∷ [])) υ
+      → Puts i τ (testsEntries (σ .tests) ++ (selectorEntry σ ∷ [])) υ
   selector-puts y σ {τ = τ} {υ = υ} h m =
       let q : σ .tests ≡ added h = added-is h in
       subst (λ ts. Puts i τ (testsEntries ts ++ (selectorEntry σ ∷ [])) υ) (sym q) m
 
-  pub selector-reads : (k : ℕ) (τ : T) (t : Token) (o : P) (c d : C) → i .next c ≡ token t o d → Sound (Selectors c τ) (readSelector i k τ t o d)
+  pub selector-reads :
+      (k : ℕ) (τ : T) (t : Token) (o : P) (c d : C)
+      → i .next c ≡ token t o d
+      → Sound (Selectors c τ) (readSelector i k τ t o d)
   unfolding readSelector
   selector-reads k τ t o c d e =
       identifier-sound _ t (λ a q. option-sound _ (idToObjectType (a .bytes)) (λ n. refused-sound _ _ _) λ y l. λ s v υ r.
-      let h = parts-read k (bare y) d τ s v υ r in
-      (_, ((h .1 .0 .0, (h .1 .0 .1 .0, (found i e q ▸ h .1 .0 .1 .1 .0, h .1 .0 .1 .1 .1))), (typed a y l (h .1 .1 .0), selector-puts y (s .0) (h .1 .1 .0) (h .1 .1 .1)))))
+      let h = parts-read k (bare y) d τ s v υ r in (
+        _,
+        (
+          (h .1 .0 .0, (h .1 .0 .1 .0, (found i e q ▸ h .1 .0 .1 .1 .0, h .1 .0 .1 .1 .1))),
+          (typed a y l (h .1 .1 .0), selector-puts y (s .0) (h .1 .1 .0) (h .1 .1 .1)),
+        ),
+      ))
       (refused-sound _ _ _)
 
   -- a selector's entries, and what comes behind them
-  selector-both : (σ : Selector) {τ υ φ : T} {es : List Entry} → Puts i τ (testsEntries (σ .tests) ++ (selectorEntry σ ∷ [])) υ → Puts i υ es φ → Puts i τ (testsEntries (σ .tests) ++ (selectorEntry σ ∷ es)) φ
-  selector-both σ {τ = τ} {φ = φ} {es = es} m l = subst (λ l. Puts i τ l φ) (append-assoc (testsEntries (σ .tests)) (selectorEntry σ ∷ []) es) (both i m l)
+  selector-both :
+      (σ : Selector) {τ υ φ : T} {es : List Entry}
+      → Puts i τ (testsEntries (σ .tests) ++ (selectorEntry σ ∷ [])) υ
+      → Puts i υ es φ
+      → Puts i τ (testsEntries (σ .tests) ++ (selectorEntry σ ∷ es)) φ
+  selector-both σ {τ = τ} {φ = φ} {es = es} m l =
+      subst (λ l. Puts i τ l φ) (append-assoc (testsEntries (σ .tests)) (selectorEntry σ ∷ []) es) (both i m l)
 
   -- ---- rules
 
@@ -360,19 +506,42 @@ module _ {C T P R : Type 0} (i : Input C T P R) where
       sign-sound _ rightBrace t (λ q. read-sound _ (_, (found i e q ▸ here, (kept, stop)))) λ n.
       λ y v υ r. let h = skip-reads k u τ y v υ r in (_, (e ▸ h .1 .0, (h .1 .1 .0, over t n (h .1 .1 .1))))
 
-  pub rule-reads : (k : ℕ) (Γ : Colors) (τ : T) (t : Token) (o : P) (c d : C) → i .next c ≡ token t o d → Sound (Phrase i (IsRule (i .countable) Γ) ruleEntries c τ) (readRule i k Γ τ t o d)
+  pub rule-reads :
+      (k : ℕ) (Γ : Colors) (τ : T) (t : Token) (o : P) (c d : C)
+      → i .next c ≡ token t o d
+      → Sound (Phrase i (IsRule (i .countable) Γ) ruleEntries c τ) (readRule i k Γ τ t o d)
   unfolding readRule ruleEntries selectorsEntries propertiesEntries
   rule-reads zero Γ τ t o c d e = refused-sound _ _ _
   rule-reads (suc k) Γ τ t o c d e =
-      sign-sound _ leftBrace t (λ q. after-sound _ _ (properties-read k Γ d τ) λ ps v υ h. keep-sound _ i _ v υ λ φ m. read-sound _ (_, (found i e q ▸ h .1 .0, (both i (h .1 .1 .0) (m ◂ kept), body (h .1 .1 .1))))) λ n.
+      sign-sound _ leftBrace t
+      (λ q.
+      after-sound _ _ (properties-read k Γ d τ) λ ps v υ h. keep-sound _ i _ v υ λ φ m. read-sound _
+      (_, (found i e q ▸ h .1 .0, (both i (h .1 .1 .0) (m ◂ kept), body (h .1 .1 .1))))) λ n.
       test-sound _ (isColors t)
-      (λ z. let w = colors-tell t z in after-sound _ _ (skip-reads k d τ) λ x v υ h. keep-sound _ i _ v υ λ φ m. read-sound _ (_, (found i e (w .1 .0) ▸ h .1 .0, (both i (h .1 .1 .0) (m ◂ kept), auxiliary (w .0) (w .1 .1) (h .1 .1 .1)))))
+      (λ z.
+      let w = colors-tell t z in
+      after-sound _ _ (skip-reads k d τ) λ x v υ h. keep-sound _ i _ v υ λ φ m. read-sound _ (
+        _,
+        (found i e (w .1 .0) ▸ h .1 .0, (both i (h .1 .1 .0) (m ◂ kept), auxiliary (w .0) (w .1 .1) (h .1 .1 .1))),
+      ))
       (λ z. after-sound _ _ (selector-reads k τ t o c d e) λ s v υ h.
       test-sound _ (s .1)
       (λ b. token-sound _ i v υ λ t o w f. after-sound _ _ (rule-reads k Γ υ t o v w f) λ r x φ g.
-      read-sound _ (_, (join i (h .1 .0 .1 .1 .0) (found i (h .1 .0 .1 .1 .1) (ap (λ b. sign (ender b)) b) ▸ g .1 .0), (selector-both (s .0) (h .1 .1 .1) (g .1 .1 .0), selectorThen (h .1 .1 .0) (g .1 .1 .1)))))
+      read-sound _ (
+        _,
+        (
+          join i (h .1 .0 .1 .1 .0) (found i (h .1 .0 .1 .1 .1) (ap (λ b. sign (ender b)) b) ▸ g .1 .0),
+          (selector-both (s .0) (h .1 .1 .1) (g .1 .1 .0), selectorThen (h .1 .1 .0) (g .1 .1 .1)),
+        ),
+      ))
       (λ b. after-sound _ _ (properties-read k Γ v υ) λ ps w φ g. keep-sound _ i _ w φ λ ψ m.
-      read-sound _ (_, (join i (h .1 .0 .1 .1 .0) (found i (h .1 .0 .1 .1 .1) (ap (λ b. sign (ender b)) b) ▸ g .1 .0), (selector-both (s .0) (h .1 .1 .1) (both i (g .1 .1 .0) (m ◂ kept)), lastSelector (h .1 .1 .0) (g .1 .1 .1))))))
+      read-sound _ (
+        _,
+        (
+          join i (h .1 .0 .1 .1 .0) (found i (h .1 .0 .1 .1 .1) (ap (λ b. sign (ender b)) b) ▸ g .1 .0),
+          (selector-both (s .0) (h .1 .1 .1) (both i (g .1 .1 .0) (m ◂ kept)), lastSelector (h .1 .1 .0) (g .1 .1 .1)),
+        ),
+      )))
 
   -- ---- sheets
 
@@ -380,7 +549,11 @@ module _ {C T P R : Type 0} (i : Input C T P R) where
   Sheets d c τ js f υ = (p : List Token) × (WholeTo i c p f × (Puts i τ (entriesOf js) υ × Sheet i d (i .store .colors τ) p js))
 
   abbrev Imports : ℕ → Name → T → Reading → C → T → Type 0
-  Imports d n τ js e υ = (k : ℕ) × ((d ≡ suc k) × ((q : List Token) × (TextOf i (n .bytes) q × (Puts i τ (entriesOf js) υ × Sheet i k (i .store .colors τ) q js))))
+  Imports d n τ js e υ =
+      (k : ℕ) ×
+      ((d ≡ suc k) ×
+      ((q : List Token) ×
+      (TextOf i (n .bytes) q × (Puts i τ (entriesOf js) υ × Sheet i k (i .store .colors τ) q js))))
 
   -- tokens before a text
   further : {p q : List Token} {c d f : C} → Gives i c p d → WholeTo i d q f → WholeTo i c (p ++ q) f
@@ -389,11 +562,19 @@ module _ {C T P R : Type 0} (i : Input C T P R) where
   entries-both : (js ks : Reading) {τ υ φ : T} → Puts i τ (entriesOf js) υ → Puts i υ (entriesOf ks) φ → Puts i τ (entriesOf (js ++ ks)) φ
   entries-both js ks m l = rw (entries-append js ks) (both i m l)
 
-  imports : {d : ℕ} (js : Reading) (τ υ : T) (e : C) (n : Name) → Imports d n τ js e υ → {p : List Token} {ks : Reading} → Sheet i d (colorsAfter (i .store .colors τ) js) p ks → Sheet i d (i .store .colors τ) (import n ∷ sign semiColon ∷ p) (js ++ ks)
+  imports :
+      {d : ℕ} (js : Reading) (τ υ : T) (e : C) (n : Name)
+      → Imports d n τ js e υ
+      → {p : List Token} {ks : Reading}
+      → Sheet i d (colorsAfter (i .store .colors τ) js) p ks
+      → Sheet i d (i .store .colors τ) (import n ∷ sign semiColon ∷ p) (js ++ ks)
   imports js τ υ e n h g = rw (h .1 .0) (imported n (h .1 .1 .1 .0) (h .1 .1 .1 .1 .1) (rw (h .1 .0) at g))
 
   -- what a definition puts in front of the rest
-  definition-is : {d : ℕ} {Γ : Colors} {p : List Token} {js : Reading} (n : Name) (t : Token) → Sheet i d (colorsAfter Γ (definition i n t)) p js → Sheet i d Γ (colorRef n ∷ sign colon ∷ t ∷ sign semiColon ∷ p) (definition i n t ++ js)
+  definition-is :
+      {d : ℕ} {Γ : Colors} {p : List Token} {js : Reading} (n : Name) (t : Token)
+      → Sheet i d (colorsAfter Γ (definition i n t)) p js
+      → Sheet i d Γ (colorRef n ∷ sign colon ∷ t ∷ sign semiColon ∷ p) (definition i n t ++ js)
   unfolding colorOf on-color on-option colorsAfter
   definition-is n (color c) h = defined n c h
   definition-is n (import a) h = dropped n _ refl h
@@ -404,23 +585,35 @@ module _ {C T P R : Type 0} (i : Input C T P R) where
   definition-is n (zoomRange a b) h = dropped n _ refl h
   definition-is n (sign c) h = dropped n _ refl h
 
-  color-kept : {A : Type 0} (S : A → C → T → Type 0) (n : Name) (t : Token) (c : C) (τ : T) {k : T → Answer A C T R} → ((υ : T) → Puts i τ (entriesOf (definition i n t)) υ → Sound S (k υ)) → Sound S (keepColor i n t c τ k)
+  color-kept :
+      {A : Type 0} (S : A → C → T → Type 0) (n : Name) (t : Token) (c : C) (τ : T) {k : T → Answer A C T R}
+      → ((υ : T) → Puts i τ (entriesOf (definition i n t)) υ → Sound S (k υ))
+      → Sound S (keepColor i n t c τ k)
   unfolding on-option entriesOf
   color-kept S n t c τ {k} h = go (colorOf t) h
     where
-      go : (o : Option Color) → ((υ : T) → Puts i τ (entriesOf (on-option o [] λ x. colorItem n x ∷ [])) υ → Sound S (k υ)) → Sound S (on-option o (k τ) λ x. keep i (colorEntry n x) c τ k)
+      go :
+          (o : Option Color)
+          → ((υ : T) → Puts i τ (entriesOf (on-option o [] λ x. colorItem n x ∷ [])) υ → Sound S (k υ))
+          → Sound S (on-option o (k τ) λ x. keep i (colorEntry n x) c τ k)
       go none h = h τ kept
       go (some x) h = keep-sound S i _ c τ λ υ m. h υ (m ◂ kept)
 
   -- behind the reference: what is read is the definition by some token
   abbrev Defines : Name → C → T → Reading → C → T → Type 0
-  Defines n c τ js d υ = (t : Token) × ((js ≡ definition i n t) × (Gives i c (sign colon ∷ t ∷ sign semiColon ∷ []) d × Puts i τ (entriesOf js) υ))
+  Defines n c τ js d υ =
+      (t : Token) ×
+      ((js ≡ definition i n t) × (Gives i c (sign colon ∷ t ∷ sign semiColon ∷ []) d × Puts i τ (entriesOf js) υ))
 
   pub color-reads : (n : Name) (c : C) (τ : T) → Sound (Defines n c τ) (readColorDef i n c τ)
   color-reads n c τ = expect-sound _ i colon c τ λ o v f. token-sound _ i v τ λ t o w g. expect-sound _ i semiColon w τ λ o z r.
       color-kept _ n t z τ λ υ m. read-sound _ (t, (refl, (f ▸ g ▸ r ▸ here, m)))
 
-  defines : {d : ℕ} {Γ : Colors} {p : List Token} (js : Reading) {ks : Reading} (n : Name) (t : Token) → js ≡ definition i n t → Sheet i d (colorsAfter Γ js) p ks → Sheet i d Γ (colorRef n ∷ sign colon ∷ t ∷ sign semiColon ∷ p) (js ++ ks)
+  defines :
+      {d : ℕ} {Γ : Colors} {p : List Token} (js : Reading) {ks : Reading} (n : Name) (t : Token)
+      → js ≡ definition i n t
+      → Sheet i d (colorsAfter Γ js) p ks
+      → Sheet i d Γ (colorRef n ∷ sign colon ∷ t ∷ sign semiColon ∷ p) (js ++ ks)
   defines {d} {Γ} {p} js {ks} n t e h =
       subst (λ js. Sheet i d Γ (colorRef n ∷ sign colon ∷ t ∷ sign semiColon ∷ p) (js ++ ks)) (sym e)
       (definition-is n t (subst (λ js. Sheet i d (colorsAfter Γ js) p ks) e h))
@@ -441,16 +634,51 @@ module _ {C T P R : Type 0} (i : Input C T P R) where
     recolored : {d : ℕ} {Γ Δ : Colors} {p : List Token} {js : Reading} → Γ ≡ Δ → Sheet i d Γ p js → Sheet i d Δ p js
     recolored {d} {p = p} {js = js} e h = subst (λ Γ. Sheet i d Γ p js) e h
 
-    sheet-reads : (d : ℕ) (imp : Name → C → T → Answer Reading C T R) → ((n : Name) (c : C) (τ : T) → Sound (Imports d n τ) (imp n c τ)) → (k : ℕ) (c : C) (τ : T) → Sound (Sheets d c τ) (parse i imp k c τ)
+    sheet-reads :
+        (d : ℕ) (imp : Name → C → T → Answer Reading C T R)
+        → ((n : Name) (c : C) (τ : T) → Sound (Imports d n τ) (imp n c τ))
+        → (k : ℕ) (c : C) (τ : T)
+        → Sound (Sheets d c τ) (parse i imp k c τ)
     unfolding parse entriesOf
-    sheet-reads d imp hi zero c τ = next-sound _ (i .next c) τ (λ f e. read-sound _ ([], ((c, (here, e)), (kept, finish)))) λ t o u e. refused-sound _ _ _
+    sheet-reads d imp hi zero c τ =
+        next-sound _ (i .next c) τ
+        (λ f e. read-sound _ ([], ((c, (here, e)), (kept, finish))))
+        λ t o u e. refused-sound _ _ _
     sheet-reads d imp hi (suc k) c τ = next-sound _ (i .next c) τ (λ f e. read-sound _ ([], ((c, (here, e)), (kept, finish)))) λ t o u e.
-        import-sound _ t (λ n q. expect-sound _ i semiColon u τ λ o v f. after-sound _ _ (hi n v τ) λ js z υ g. after-sound _ _ (sheet-reads d imp hi k v υ) λ ks x φ h.
-        read-sound _ (_, (further (found i e q ▸ f ▸ here) (h .1 .0), (entries-both js ks (g .1 .1 .1 .1 .0) (h .1 .1 .0), imports js τ υ z n g (recolored (reading-colors js (g .1 .1 .1 .1 .0)) (h .1 .1 .1))))))
+        import-sound _ t
+        (λ n q. expect-sound _ i semiColon u τ λ o v f. after-sound _ _ (hi n v τ) λ js z υ g. after-sound _ _ (sheet-reads d imp hi k v υ) λ ks x φ h.
+        read-sound _ (
+          _,
+          (
+            further (found i e q ▸ f ▸ here) (h .1 .0),
+            (
+              entries-both js ks (g .1 .1 .1 .1 .0) (h .1 .1 .0),
+              imports js τ υ z n g (recolored (reading-colors js (g .1 .1 .1 .1 .0)) (h .1 .1 .1)),
+            ),
+          ),
+        ))
         (colorRef-sound _ t (λ n q. after-sound _ _ (color-reads n u τ) λ js v υ g. after-sound _ _ (sheet-reads d imp hi k v υ) λ ks x φ h.
-        read-sound _ (_, (further (found i e q ▸ g .1 .1 .0) (h .1 .0), (entries-both js ks (g .1 .1 .1) (h .1 .1 .0), defines js n (g .0) (g .1 .0) (recolored (reading-colors js (g .1 .1 .1)) (h .1 .1 .1))))))
+        read-sound _ (
+          _,
+          (
+            further (found i e q ▸ g .1 .1 .0) (h .1 .0),
+            (
+              entries-both js ks (g .1 .1 .1) (h .1 .1 .0),
+              defines js n (g .0) (g .1 .0) (recolored (reading-colors js (g .1 .1 .1)) (h .1 .1 .1)),
+            ),
+          ),
+        ))
         (after-sound _ _ (rule-reads (suc k) (i .store .colors τ) τ t o c u e) λ r v υ g. after-sound _ _ (sheet-reads d imp hi k v υ) λ ks x φ h.
-        read-sound _ (_, (further (g .1 .0) (h .1 .0), (both i (g .1 .1 .0) (h .1 .1 .0), aRule (g .1 .1 .1) (recolored (rule-colors r (g .1 .1 .0)) (h .1 .1 .1)))))))
+        read-sound _ (
+          _,
+          (
+            further (g .1 .0) (h .1 .0),
+            (
+              both i (g .1 .1 .0) (h .1 .1 .0),
+              aRule (g .1 .1 .1) (recolored (rule-colors r (g .1 .1 .0)) (h .1 .1 .1)),
+            ),
+          ),
+        )))
 
     imports-read : (d : ℕ) (n : Name) (c : C) (τ : T) → Sound (Imports d n τ) (importFile i d n c τ)
     unfolding importFile
@@ -460,6 +688,9 @@ module _ {C T P R : Type 0} (i : Input C T P R) where
         (d, (refl, (h .0, ((u, (e, (v, h .1 .0))), h .1 .1))))
 
     -- what is loaded has a derivation, and the tables hold its entries, in order
-    pub load-sound : (c : C) (τ : T) (js : Reading) (f : C) (υ : T) → load i c τ ≡ read js f υ → (p : List Token) × (WholeTo i c p f × (Puts i τ (entriesOf js) υ × Sheet i 8 (i .store .colors τ) p js))
+    pub load-sound :
+        (c : C) (τ : T) (js : Reading) (f : C) (υ : T)
+        → load i c τ ≡ read js f υ
+        → (p : List Token) × (WholeTo i c p f × (Puts i τ (entriesOf js) υ × Sheet i 8 (i .store .colors τ) p js))
     unfolding load
     load-sound c τ js f υ q = sheet-reads 8 (importFile i 8) (imports-read 8) (i .fuel c) c τ js f υ q

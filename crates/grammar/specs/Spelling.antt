@@ -26,9 +26,12 @@ black = record { r = 0; g = 0; b = 0 }
 
 abbrev pub signs : Map Sign
 signs =
-    entry (ascii "(") leftParen ∷ entry (ascii ")") rightParen ∷ entry (ascii "[") leftBracket ∷ entry (ascii "]") rightBracket ∷ entry (ascii "{") leftBrace ∷ entry (ascii "}") rightBrace
-    ∷ entry (ascii "=") equalSign ∷ entry (ascii "!=") notEqualSign ∷ entry (ascii "<") lessSign ∷ entry (ascii ">") greaterSign ∷ entry (ascii "<=") lessOrEqualSign ∷ entry (ascii ">=") greaterOrEqualSign
-    ∷ entry (ascii "=~") regexMatch ∷ entry (ascii "!") bang ∷ entry (ascii "?") questionMark ∷ entry (ascii ":") colon ∷ entry (ascii "::") doubleColon ∷ entry (ascii ";") semiColon ∷ entry (ascii ",") comma ∷ []
+    entry (ascii "(") leftParen ∷ entry (ascii ")") rightParen ∷ entry (ascii "[") leftBracket ∷ entry (ascii "]")
+    rightBracket ∷ entry (ascii "{") leftBrace ∷ entry (ascii "}") rightBrace
+    ∷ entry (ascii "=") equalSign ∷ entry (ascii "!=") notEqualSign ∷ entry (ascii "<") lessSign ∷ entry (ascii ">")
+    greaterSign ∷ entry (ascii "<=") lessOrEqualSign ∷ entry (ascii ">=") greaterOrEqualSign
+    ∷ entry (ascii "=~") regexMatch ∷ entry (ascii "!") bang ∷ entry (ascii "?") questionMark ∷ entry (ascii ":") colon
+    ∷ entry (ascii "::") doubleColon ∷ entry (ascii ";") semiColon ∷ entry (ascii ",") comma ∷ []
 
 -- 0 is the number, # the colour black, |1 the zoom range 1 to 1, @a a reference, 'a the string "a", &a an import of "a"
 abbrev pub wordToken : Bytes → Token

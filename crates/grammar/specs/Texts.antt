@@ -26,7 +26,9 @@ nextOf (t ∷ ts) = token t (t ∷ ts) ts
 module _ (countable : Float → Bool) where
   -- a refusal tells its reason, and the tokens from its place on
   abbrev pub listed : {T : Type 0} → Bundle → Store T → Input (List Token) T (List Token) (Reason × List Token)
-  listed b s = record { next = nextOf; reached = λ c. c; why = λ r c. (r, c); text = λ n. lookup n b; fuel = λ c. suc (length c); countable = countable; store = s }
+  listed b s =
+      record
+      { next = nextOf; reached = λ c. c; why = λ r c. (r, c); text = λ n. lookup n b; fuel = λ c. suc (length c); countable = countable; store = s }
 
   -- the reading of a bundle whose first text has the tokens p
   abbrev pub readBundle : Bundle → List Token → Answer Reading (List Token) Tables (Reason × List Token)

@@ -73,13 +73,19 @@ module _ (countable : Float → Bool) (b : Bundle) where
 
   -- ---- accepted exactly the grammar's
 
-  pub sound : (p : List Token) (js : Reading) (f : List Token) (υ : Tables) → readBundle countable b p ≡ read js f υ → HasReading countable b p js
+  pub sound :
+      (p : List Token) (js : Reading) (f : List Token) (υ : Tables)
+      → readBundle countable b p ≡ read js f υ
+      → HasReading countable b p js
   sound p js f υ e =
       let h = load-sound (listed countable b endless) tinted p empty js f υ e in
       rw (whole-is p (h .0) f (h .1 .0)) (retold (λ n q x. x .1 .0 ∙ ap some (whole-is (x .0) q (x .1 .1 .0) (x .1 .1 .1))) (h .1 .1 .1))
 
   pub complete : (p : List Token) (js : Reading) → HasReading countable b p js → readBundle countable b p ≡ read js [] (tablesOf js)
-  complete p js d = load-complete (listed countable b endless) tinted long-enough p [] empty (tablesOf js) ([], (all-given p, refl)) (all-put (entriesOf js) empty) (retold (λ n q x. (q, (x, ([], ([], (all-given q, refl)))))) d)
+  complete p js d =
+      load-complete (listed countable b endless) tinted long-enough p [] empty (tablesOf js) ([], (all-given p, refl))
+      (all-put (entriesOf js) empty)
+      (retold (λ n q x. (q, (x, ([], ([], (all-given q, refl)))))) d)
 
 module _ (countable : Float → Bool) where
   is-read : {A C T R : Type 0} (a : Answer A C T R) → isRead countable a ≡ true → (x : A) × ((c : C) × ((τ : T) × (a ≡ read x c τ)))
@@ -97,8 +103,10 @@ module _ (countable : Float → Bool) where
   pub has-all : (ps : List (List Token)) → acceptsAll ps ≡ true → HasAll countable ps
   has-all [] e = tt
   has-all (p ∷ ps) e =
-      let h = is-read (readBundle countable [] p) (and-left (accepts countable p) (acceptsAll ps) e) in
-      ((h .0, sound countable [] p (h .0) (h .1 .0) (h .1 .1 .0) (h .1 .1 .1)), has-all ps (and-right (accepts countable p) (acceptsAll ps) e))
+      let h = is-read (readBundle countable [] p) (and-left (accepts countable p) (acceptsAll ps) e) in (
+        (h .0, sound countable [] p (h .0) (h .1 .0) (h .1 .1 .0) (h .1 .1 .1)),
+        has-all ps (and-right (accepts countable p) (acceptsAll ps) e),
+      )
 
   not-not : (b : Bool) → not b ≡ true → b ≡ false
   not-not true e = sym e
@@ -106,8 +114,9 @@ module _ (countable : Float → Bool) where
 
   pub has-none : (ps : List (List Token)) → acceptsNone ps ≡ true → HasNone countable ps
   has-none [] e = tt
-  has-none (p ∷ ps) e =
-      (
-        λ js d. clash (ap (isRead countable) (complete countable [] p js d)) (not-not (accepts countable p) (and-left (not (accepts countable p)) (acceptsNone ps) e)),
-        has-none ps (and-right (not (accepts countable p)) (acceptsNone ps) e),
-      )
+  has-none (p ∷ ps) e = (
+    λ js d.
+        clash (ap (isRead countable) (complete countable [] p js d))
+        (not-not (accepts countable p) (and-left (not (accepts countable p)) (acceptsNone ps) e)),
+    has-none ps (and-right (not (accepts countable p)) (acceptsNone ps) e),
+  )

@@ -87,7 +87,11 @@ module _ {B : Type 0} (Q : B → Type 0) where
   number-holds (color x) f g hf hg = hg
   number-holds (sign x) f g hf hg = hg
 
-  pub zoomRange-holds : (t : Token) (f : Option ℕ → Option ℕ → B) (g : B) → ((x : Option ℕ) (y : Option ℕ) → t ≡ zoomRange x y → Q (f x y)) → Q g → Q (on-zoomRange t f g)
+  pub zoomRange-holds :
+      (t : Token) (f : Option ℕ → Option ℕ → B) (g : B)
+      → ((x : Option ℕ) (y : Option ℕ) → t ≡ zoomRange x y → Q (f x y))
+      → Q g
+      → Q (on-zoomRange t f g)
   unfolding on-zoomRange
   zoomRange-holds (import x) f g hf hg = hg
   zoomRange-holds (identifier x) f g hf hg = hg
