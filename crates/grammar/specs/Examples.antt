@@ -15,7 +15,7 @@ use Rattle.base.specs.Choice.{and-left, and-right}
 use Rattle.sheet.specs.Sheet.{way, isFalse, equal, Color}
 use Rattle.grammar.specs.Token.{Name, Token}
 use Rattle.grammar.specs.View.{isSign, on-import, on-identifier, on-string, on-colorRef, on-number, on-zoomRange, on-color, colorOf}
-use Rattle.grammar.specs.Reading.{unary, text, digits, colored, numbers, widthDelta, Reading, ruleItem, colorItem, rule, property, bare, withZoom, withTest, withLayer, colorDef, define, colorNamed, idToObjectType, colorsAfter}
+use Rattle.grammar.specs.Reading.{unary, text, digits, colored, numbers, widthDelta, Reading, ruleItem, colorItem, rule, property, bare, withTest, withLayer, colorDef, define, colorNamed, idToObjectType, colorsAfter}
 use Rattle.grammar.specs.Input.{ruleEntry, selectorEntry, testEntry, propertyEntry, numberEntry, colorEntry, Reason, endOfFile, objectType, expected, colorReference, evalForm, noText, notWhole, tooDeep, full, on-next, on-option, after, Answer, refused, read}
 use Rattle.grammar.specs.Reader.{toBinaryStringTestType, toBinaryNumericTestType, widthIncrement, isColors, plainTest, bangTest, readTest, readNumberList, tokensToSemiColon, readSimpleEval, readPropertyValue, readProperties, readParts, readSelector, skipColors, readRule, parse, importFile, load}
 use Rattle.grammar.specs.Entries.{count}
@@ -96,7 +96,7 @@ module _ (countable : Float → Bool) where
   -- ---- readings
 
   -- a later zoom range replaces the earlier
-  pub later-zoom : HasReading countable [] (tokens "way |1 |2 { }") (ruleItem (rule (withZoom (bare way) (some 2) (some 2) ∷ []) []) ∷ [])
+  pub later-zoom : HasReading countable [] (tokens "way |1 |2 { }") (ruleItem (rule (record { objectType = way; minZoom = some 2; maxZoom = some 2; tests = []; layerId = none } ∷ []) []) ∷ [])
   unfolding same lookup isSign on-import on-identifier on-string on-colorRef on-number on-zoomRange on-color colorOf
       on-next on-option after toBinaryStringTestType toBinaryNumericTestType widthIncrement isColors plainTest
       bangTest readTest readNumberList tokensToSemiColon readSimpleEval readPropertyValue readProperties readParts
