@@ -20,7 +20,7 @@ use Rattle.grammar.specs.Input.{ruleEntry, selectorEntry, testEntry, pro
 use Rattle.grammar.specs.Reader.{toBinaryStringTestType, toBinaryNumericTestType, widthIncrement, isColors, plainTest, bangTest, readTest, readNumberList, tokensToSemiColon, readSimpleEval, readPropertyValue, readProperties, readParts, readSelector, skipColors, readRule, parse, importFile, load}
 use Rattle.grammar.specs.Entries.{count}
 use Rattle.grammar.specs.Capacity.{Tables, tables, empty, add, limited}
-use Rattle.grammar.specs.Texts.{Bundle, listed, readBundle, accepts, HasReading, HasAll, HasNone}
+use Rattle.grammar.specs.Texts.{Bundle, Place, Cursor, cursor, textNamed, listed, readBundle, accepts, HasReading, HasAll, HasNone}
 use Rattle.grammar.specs.TextsProof.{sound, acceptsAll, acceptsNone, has-all, has-none}
 use Rattle.grammar.specs.Spelling.{name, nought, black, spelt, words, tokens}
 
@@ -84,7 +84,7 @@ module _ (countable : Float → Bool) where
       )
 
   all-judged : judged stumbles ≡ true
-  unfolding same lookup isSign on-import on-identifier on-string on-colorRef on-number on-zoomRange on-color colorOf
+  unfolding same lookup textNamed isSign on-import on-identifier on-string on-colorRef on-number on-zoomRange on-color colorOf
       on-next on-option after toBinaryStringTestType toBinaryNumericTestType widthIncrement isColors plainTest
       bangTest readTest readNumberList tokensToSemiColon readSimpleEval readPropertyValue readProperties readParts
       readSelector skipColors readRule parse importFile load define colorNamed idToObjectType add
@@ -97,7 +97,7 @@ module _ (countable : Float → Bool) where
 
   -- a later zoom range replaces the earlier
   pub later-zoom : HasReading countable [] (tokens "way |1 |2 { }") (ruleItem (rule (record { objectType = way; minZoom = some 2; maxZoom = some 2; tests = []; layerId = none } ∷ []) []) ∷ [])
-  unfolding same lookup isSign on-import on-identifier on-string on-colorRef on-number on-zoomRange on-color colorOf
+  unfolding same lookup textNamed isSign on-import on-identifier on-string on-colorRef on-number on-zoomRange on-color colorOf
       on-next on-option after toBinaryStringTestType toBinaryNumericTestType widthIncrement isColors plainTest
       bangTest readTest readNumberList tokensToSemiColon readSimpleEval readPropertyValue readProperties readParts
       readSelector skipColors readRule parse importFile load define colorNamed idToObjectType add
@@ -105,7 +105,7 @@ module _ (countable : Float → Bool) where
 
   -- :class is dropped
   pub class-dropped : HasReading countable [] (tokens "way : a { }") (ruleItem (rule (bare way ∷ []) []) ∷ [])
-  unfolding same lookup isSign on-import on-identifier on-string on-colorRef on-number on-zoomRange on-color colorOf
+  unfolding same lookup textNamed isSign on-import on-identifier on-string on-colorRef on-number on-zoomRange on-color colorOf
       on-next on-option after toBinaryStringTestType toBinaryNumericTestType widthIncrement isColors plainTest
       bangTest readTest readNumberList tokensToSemiColon readSimpleEval readPropertyValue readProperties readParts
       readSelector skipColors readRule parse importFile load define colorNamed idToObjectType add
@@ -114,7 +114,7 @@ module _ (countable : Float → Bool) where
   -- [x?!] is [!x?]
   pub question-bang :
       HasReading countable [] (tokens "way [ x ? ! ] { }") (ruleItem (rule (withTest (bare way) (unary isFalse (name "x")) ∷ []) []) ∷ [])
-  unfolding same lookup isSign on-import on-identifier on-string on-colorRef on-number on-zoomRange on-color colorOf
+  unfolding same lookup textNamed isSign on-import on-identifier on-string on-colorRef on-number on-zoomRange on-color colorOf
       on-next on-option after toBinaryStringTestType toBinaryNumericTestType widthIncrement isColors plainTest
       bangTest readTest readNumberList tokensToSemiColon readSimpleEval readPropertyValue readProperties readParts
       readSelector skipColors readRule parse importFile load define colorNamed idToObjectType add
@@ -123,7 +123,7 @@ module _ (countable : Float → Bool) where
   -- colors ends the rule, with the selectors read before it and no properties
   pub colors-rule :
       HasReading countable [] (tokens "way :: x , colors { a : b ; }") (ruleItem (rule (withLayer (bare way) (name "x") ∷ []) []) ∷ [])
-  unfolding same lookup isSign on-import on-identifier on-string on-colorRef on-number on-zoomRange on-color colorOf
+  unfolding same lookup textNamed isSign on-import on-identifier on-string on-colorRef on-number on-zoomRange on-color colorOf
       on-next on-option after toBinaryStringTestType toBinaryNumericTestType widthIncrement isColors plainTest
       bangTest readTest readNumberList tokensToSemiColon readSimpleEval readPropertyValue readProperties readParts
       readSelector skipColors readRule parse importFile load define colorNamed idToObjectType add
@@ -131,7 +131,7 @@ module _ (countable : Float → Bool) where
 
   -- a definition that is no colour has no effect
   pub no-effect : HasReading countable [] (tokens "@c : } ;") []
-  unfolding same lookup isSign on-import on-identifier on-string on-colorRef on-number on-zoomRange on-color colorOf
+  unfolding same lookup textNamed isSign on-import on-identifier on-string on-colorRef on-number on-zoomRange on-color colorOf
       on-next on-option after toBinaryStringTestType toBinaryNumericTestType widthIncrement isColors plainTest
       bangTest readTest readNumberList tokensToSemiColon readSimpleEval readPropertyValue readProperties readParts
       readSelector skipColors readRule parse importFile load define colorNamed idToObjectType add
@@ -140,7 +140,7 @@ module _ (countable : Float → Bool) where
   -- marked case 9
   pub delta-nought :
       HasReading countable [] (tokens "{ casing-width : eval ( prop ( 'width ) ) ; }") (ruleItem (rule [] (property (name "casing-width") (widthDelta nought) ∷ [])) ∷ [])
-  unfolding same lookup isSign on-import on-identifier on-string on-colorRef on-number on-zoomRange on-color colorOf
+  unfolding same lookup textNamed isSign on-import on-identifier on-string on-colorRef on-number on-zoomRange on-color colorOf
       on-next on-option after toBinaryStringTestType toBinaryNumericTestType widthIncrement isColors plainTest
       bangTest readTest readNumberList tokensToSemiColon readSimpleEval readPropertyValue readProperties readParts
       readSelector skipColors readRule parse importFile load define colorNamed idToObjectType add
@@ -148,17 +148,17 @@ module _ (countable : Float → Bool) where
 
   -- marked case 12
   pub nothing-read : HasReading countable [] [] []
-  unfolding same lookup isSign on-import on-identifier on-string on-colorRef on-number on-zoomRange on-color colorOf
+  unfolding same lookup textNamed isSign on-import on-identifier on-string on-colorRef on-number on-zoomRange on-color colorOf
       on-next on-option after toBinaryStringTestType toBinaryNumericTestType widthIncrement isColors plainTest
       bangTest readTest readNumberList tokensToSemiColon readSimpleEval readPropertyValue readProperties readParts
       readSelector skipColors readRule parse importFile load define colorNamed idToObjectType add
   nothing-read = sound countable [] _ _ _ _ refl
 
-  -- ---- refusals: the reason, and the tokens from the place on
+  -- ---- refusals: the reason, the text and the character, each token being two characters wide
 
   -- marked case 6: the place reached by reading the end
-  pub cut-short : readBundle countable [] (tokens "way") ≡ refused (endOfFile, []) empty
-  unfolding same lookup isSign on-import on-identifier on-string on-colorRef on-number on-zoomRange on-color colorOf
+  pub cut-short : readBundle countable [] (tokens "way") ≡ refused (endOfFile, (0, 3)) empty
+  unfolding same lookup textNamed isSign on-import on-identifier on-string on-colorRef on-number on-zoomRange on-color colorOf
       on-next on-option after toBinaryStringTestType toBinaryNumericTestType widthIncrement isColors plainTest
       bangTest readTest readNumberList tokensToSemiColon readSimpleEval readPropertyValue readProperties readParts
       readSelector skipColors readRule parse importFile load define colorNamed idToObjectType add
@@ -166,24 +166,24 @@ module _ (countable : Float → Bool) where
 
   -- marked case 7: behind the reference
   pub not-a-color :
-      readBundle countable [] (tokens "@a : red ; way { color : @a ; }") ≡ refused (colorReference, tokens "; }") (tables (selectorEntry (bare way) ∷ []) [])
-  unfolding same lookup isSign on-import on-identifier on-string on-colorRef on-number on-zoomRange on-color colorOf
+      readBundle countable [] (tokens "@a : red ; way { color : @a ; }") ≡ refused (colorReference, (0, 18)) (tables (selectorEntry (bare way) ∷ []) [])
+  unfolding same lookup textNamed isSign on-import on-identifier on-string on-colorRef on-number on-zoomRange on-color colorOf
       on-next on-option after toBinaryStringTestType toBinaryNumericTestType widthIncrement isColors plainTest
       bangTest readTest readNumberList tokensToSemiColon readSimpleEval readPropertyValue readProperties readParts
       readSelector skipColors readRule parse importFile load define colorNamed idToObjectType add
   not-a-color = refl
 
   -- an eval form: at the word, once its semicolon is read
-  pub bad-eval : readBundle countable [] (tokens "{ a : eval x ; }") ≡ refused (evalForm, tokens "eval x ; }") empty
-  unfolding same lookup isSign on-import on-identifier on-string on-colorRef on-number on-zoomRange on-color colorOf
+  pub bad-eval : readBundle countable [] (tokens "{ a : eval x ; }") ≡ refused (evalForm, (0, 7)) empty
+  unfolding same lookup textNamed isSign on-import on-identifier on-string on-colorRef on-number on-zoomRange on-color colorOf
       on-next on-option after toBinaryStringTestType toBinaryNumericTestType widthIncrement isColors plainTest
       bangTest readTest readNumberList tokensToSemiColon readSimpleEval readPropertyValue readProperties readParts
       readSelector skipColors readRule parse importFile load define colorNamed idToObjectType add
   bad-eval = refl
 
   -- without its semicolon the form is not judged
-  pub eval-cut-short : readBundle countable [] (tokens "{ a : eval x }") ≡ refused (endOfFile, []) empty
-  unfolding same lookup isSign on-import on-identifier on-string on-colorRef on-number on-zoomRange on-color colorOf
+  pub eval-cut-short : readBundle countable [] (tokens "{ a : eval x }") ≡ refused (endOfFile, (0, 13)) empty
+  unfolding same lookup textNamed isSign on-import on-identifier on-string on-colorRef on-number on-zoomRange on-color colorOf
       on-next on-option after toBinaryStringTestType toBinaryNumericTestType widthIncrement isColors plainTest
       bangTest readTest readNumberList tokensToSemiColon readSimpleEval readPropertyValue readProperties readParts
       readSelector skipColors readRule parse importFile load define colorNamed idToObjectType add
@@ -191,16 +191,16 @@ module _ (countable : Float → Bool) where
 
   -- an object type: at its first character
   pub bad-type :
-      readBundle countable [] (tokens "way , x { }") ≡ refused (objectType, tokens "x { }") (tables (selectorEntry (bare way) ∷ []) [])
-  unfolding same lookup isSign on-import on-identifier on-string on-colorRef on-number on-zoomRange on-color colorOf
+      readBundle countable [] (tokens "way , x { }") ≡ refused (objectType, (0, 5)) (tables (selectorEntry (bare way) ∷ []) [])
+  unfolding same lookup textNamed isSign on-import on-identifier on-string on-colorRef on-number on-zoomRange on-color colorOf
       on-next on-option after toBinaryStringTestType toBinaryNumericTestType widthIncrement isColors plainTest
       bangTest readTest readNumberList tokensToSemiColon readSimpleEval readPropertyValue readProperties readParts
       readSelector skipColors readRule parse importFile load define colorNamed idToObjectType add
   bad-type = refl
 
   -- another token expected: at its first character
-  pub not-expected : readBundle countable [] (tokens "{ a b ; }") ≡ refused (expected, tokens "b ; }") empty
-  unfolding same lookup isSign on-import on-identifier on-string on-colorRef on-number on-zoomRange on-color colorOf
+  pub not-expected : readBundle countable [] (tokens "{ a b ; }") ≡ refused (expected, (0, 5)) empty
+  unfolding same lookup textNamed isSign on-import on-identifier on-string on-colorRef on-number on-zoomRange on-color colorOf
       on-next on-option after toBinaryStringTestType toBinaryNumericTestType widthIncrement isColors plainTest
       bangTest readTest readNumberList tokensToSemiColon readSimpleEval readPropertyValue readProperties readParts
       readSelector skipColors readRule parse importFile load define colorNamed idToObjectType add
@@ -216,22 +216,22 @@ module _ (countable : Float → Bool) where
       ∷ entry (ascii "6") (tokens "&7 ;") ∷ entry (ascii "7") (tokens "&8 ;") ∷ entry (ascii "8") (tokens s) ∷ entry
       (ascii "9") (tokens "{ }") ∷ []
 
-  pub nine-texts : readBundle countable (chain "{ }") (tokens "&1 ;") ≡ read (ruleItem (rule [] []) ∷ []) [] (tables (ruleEntry ∷ []) [])
-  unfolding same lookup isSign on-import on-identifier on-string on-colorRef on-number on-zoomRange on-color colorOf
+  pub nine-texts : readBundle countable (chain "{ }") (tokens "&1 ;") ≡ read (ruleItem (rule [] []) ∷ []) (cursor 0 5 []) (tables (ruleEntry ∷ []) [])
+  unfolding same lookup textNamed isSign on-import on-identifier on-string on-colorRef on-number on-zoomRange on-color colorOf
       on-next on-option after toBinaryStringTestType toBinaryNumericTestType widthIncrement isColors plainTest
       bangTest readTest readNumberList tokensToSemiColon readSimpleEval readPropertyValue readProperties readParts
       readSelector skipColors readRule parse importFile load define colorNamed idToObjectType add
   nine-texts = refl
 
-  pub ten-texts : readBundle countable (chain "&9 ; { }") (tokens "&1 ;") ≡ refused (tooDeep, tokens "{ }") empty
-  unfolding same lookup isSign on-import on-identifier on-string on-colorRef on-number on-zoomRange on-color colorOf
+  pub ten-texts : readBundle countable (chain "&9 ; { }") (tokens "&1 ;") ≡ refused (tooDeep, (8, 4)) empty
+  unfolding same lookup textNamed isSign on-import on-identifier on-string on-colorRef on-number on-zoomRange on-color colorOf
       on-next on-option after toBinaryStringTestType toBinaryNumericTestType widthIncrement isColors plainTest
       bangTest readTest readNumberList tokensToSemiColon readSimpleEval readPropertyValue readProperties readParts
       readSelector skipColors readRule parse importFile load define colorNamed idToObjectType add
   ten-texts = refl
 
-  pub unknown-text : readBundle countable (chain "&x ; { }") (tokens "&1 ;") ≡ refused (noText, tokens "{ }") empty
-  unfolding same lookup isSign on-import on-identifier on-string on-colorRef on-number on-zoomRange on-color colorOf
+  pub unknown-text : readBundle countable (chain "&x ; { }") (tokens "&1 ;") ≡ refused (noText, (8, 4)) empty
+  unfolding same lookup textNamed isSign on-import on-identifier on-string on-colorRef on-number on-zoomRange on-color colorOf
       on-next on-option after toBinaryStringTestType toBinaryNumericTestType widthIncrement isColors plainTest
       bangTest readTest readNumberList tokensToSemiColon readSimpleEval readPropertyValue readProperties readParts
       readSelector skipColors readRule parse importFile load define colorNamed idToObjectType add
@@ -239,8 +239,8 @@ module _ (countable : Float → Bool) where
 
   -- ---- the moments of storing: tables with room for as many entries as the function says
 
-  abbrev loaded : (Float → Bool) → (ℕ → ℕ) → List Token → Answer Reading (List Token) Tables (Reason × List Token)
-  loaded whole capacity p = load (listed whole [] (limited capacity)) p empty
+  abbrev loaded : (Float → Bool) → (ℕ → ℕ) → List Token → Answer Reading Cursor Tables (Reason × Place)
+  loaded whole capacity p = load (listed whole [] (limited capacity)) (cursor 0 0 p) empty
 
   -- as many entries as k of every table, n of numbers
   abbrev numbersOnly : ℕ → ℕ → ℕ
@@ -248,45 +248,45 @@ module _ (countable : Float → Bool) where
 
   -- a listed number is stored before the next token is read
   pub listed-at-once :
-      loaded countable (numbersOnly 1) (tokens "{ d : 0 , 0 ; }") ≡ refused (full (numberEntry nought), tokens "; }") (tables (numberEntry nought ∷ []) [])
-  unfolding same lookup isSign on-import on-identifier on-string on-colorRef on-number on-zoomRange on-color colorOf
+      loaded countable (numbersOnly 1) (tokens "{ d : 0 , 0 ; }") ≡ refused (full (numberEntry nought), (0, 12)) (tables (numberEntry nought ∷ []) [])
+  unfolding same lookup textNamed isSign on-import on-identifier on-string on-colorRef on-number on-zoomRange on-color colorOf
       on-next on-option after toBinaryStringTestType toBinaryNumericTestType widthIncrement isColors plainTest
       bangTest readTest readNumberList tokensToSemiColon readSimpleEval readPropertyValue readProperties readParts
       readSelector skipColors readRule parse importFile load define colorNamed idToObjectType add count
   listed-at-once = refl
 
-  pub listed-before-end : loaded countable (numbersOnly 0) (tokens "{ d : 0") ≡ refused (full (numberEntry nought), []) empty
-  unfolding same lookup isSign on-import on-identifier on-string on-colorRef on-number on-zoomRange on-color colorOf
+  pub listed-before-end : loaded countable (numbersOnly 0) (tokens "{ d : 0") ≡ refused (full (numberEntry nought), (0, 8)) empty
+  unfolding same lookup textNamed isSign on-import on-identifier on-string on-colorRef on-number on-zoomRange on-color colorOf
       on-next on-option after toBinaryStringTestType toBinaryNumericTestType widthIncrement isColors plainTest
       bangTest readTest readNumberList tokensToSemiColon readSimpleEval readPropertyValue readProperties readParts
       readSelector skipColors readRule parse importFile load define colorNamed idToObjectType add count
   listed-before-end = refl
 
   -- at one token: the grammar's own judgement, then 6, then the number, then the entry itself
-  pub judged-first : loaded countable (λ k. 0) (tokens "way [ a < 0 x") ≡ refused (expected, tokens "x") empty
-  unfolding same lookup isSign on-import on-identifier on-string on-colorRef on-number on-zoomRange on-color colorOf
+  pub judged-first : loaded countable (λ k. 0) (tokens "way [ a < 0 x") ≡ refused (expected, (0, 11)) empty
+  unfolding same lookup textNamed isSign on-import on-identifier on-string on-colorRef on-number on-zoomRange on-color colorOf
       on-next on-option after toBinaryStringTestType toBinaryNumericTestType widthIncrement isColors plainTest
       bangTest readTest readNumberList tokensToSemiColon readSimpleEval readPropertyValue readProperties readParts
       readSelector skipColors readRule parse importFile load define colorNamed idToObjectType add count
   judged-first = refl
 
-  pub six-first : loaded (λ x. false) (λ k. 0) (tokens "way [ a = 0 ] {") ≡ refused (notWhole, tokens "{") empty
-  unfolding same lookup isSign on-import on-identifier on-string on-colorRef on-number on-zoomRange on-color colorOf
+  pub six-first : loaded (λ x. false) (λ k. 0) (tokens "way [ a = 0 ] {") ≡ refused (notWhole, (0, 12)) empty
+  unfolding same lookup textNamed isSign on-import on-identifier on-string on-colorRef on-number on-zoomRange on-color colorOf
       on-next on-option after toBinaryStringTestType toBinaryNumericTestType widthIncrement isColors plainTest
       bangTest readTest readNumberList tokensToSemiColon readSimpleEval readPropertyValue readProperties readParts
       readSelector skipColors readRule parse importFile load define colorNamed idToObjectType add count
   six-first = refl
 
-  pub number-first : loaded (λ x. true) (λ k. 0) (tokens "way [ a = 0 ] {") ≡ refused (full (numberEntry nought), tokens "{") empty
-  unfolding same lookup isSign on-import on-identifier on-string on-colorRef on-number on-zoomRange on-color colorOf
+  pub number-first : loaded (λ x. true) (λ k. 0) (tokens "way [ a = 0 ] {") ≡ refused (full (numberEntry nought), (0, 12)) empty
+  unfolding same lookup textNamed isSign on-import on-identifier on-string on-colorRef on-number on-zoomRange on-color colorOf
       on-next on-option after toBinaryStringTestType toBinaryNumericTestType widthIncrement isColors plainTest
       bangTest readTest readNumberList tokensToSemiColon readSimpleEval readPropertyValue readProperties readParts
       readSelector skipColors readRule parse importFile load define colorNamed idToObjectType add count
   number-first = refl
 
   pub then-the-test :
-      loaded (λ x. true) (λ k. cond (eqb k 5) 1 0) (tokens "way [ a = 0 ] {") ≡ refused (full (testEntry (text equal (name "a") (digits nought))), tokens "{") (tables (numberEntry nought ∷ []) [])
-  unfolding same lookup isSign on-import on-identifier on-string on-colorRef on-number on-zoomRange on-color colorOf
+      loaded (λ x. true) (λ k. cond (eqb k 5) 1 0) (tokens "way [ a = 0 ] {") ≡ refused (full (testEntry (text equal (name "a") (digits nought))), (0, 12)) (tables (numberEntry nought ∷ []) [])
+  unfolding same lookup textNamed isSign on-import on-identifier on-string on-colorRef on-number on-zoomRange on-color colorOf
       on-next on-option after toBinaryStringTestType toBinaryNumericTestType widthIncrement isColors plainTest
       bangTest readTest readNumberList tokensToSemiColon readSimpleEval readPropertyValue readProperties readParts
       readSelector skipColors readRule parse importFile load define colorNamed idToObjectType add count
@@ -294,24 +294,24 @@ module _ (countable : Float → Bool) where
 
   -- a delta at its semicolon, just before its property
   pub delta-first :
-      loaded countable (λ k. 0) (tokens "{ a : eval ( prop ( 'width ) ) ; }") ≡ refused (full (numberEntry nought), tokens "}") empty
-  unfolding same lookup isSign on-import on-identifier on-string on-colorRef on-number on-zoomRange on-color colorOf
+      loaded countable (λ k. 0) (tokens "{ a : eval ( prop ( 'width ) ) ; }") ≡ refused (full (numberEntry nought), (0, 22)) empty
+  unfolding same lookup textNamed isSign on-import on-identifier on-string on-colorRef on-number on-zoomRange on-color colorOf
       on-next on-option after toBinaryStringTestType toBinaryNumericTestType widthIncrement isColors plainTest
       bangTest readTest readNumberList tokensToSemiColon readSimpleEval readPropertyValue readProperties readParts
       readSelector skipColors readRule parse importFile load define colorNamed idToObjectType add count
   delta-first = refl
 
   -- a selector at its comma
-  pub selector-at-comma : loaded countable (λ k. 0) (tokens "way , x") ≡ refused (full (selectorEntry (bare way)), tokens "x") empty
-  unfolding same lookup isSign on-import on-identifier on-string on-colorRef on-number on-zoomRange on-color colorOf
+  pub selector-at-comma : loaded countable (λ k. 0) (tokens "way , x") ≡ refused (full (selectorEntry (bare way)), (0, 4)) empty
+  unfolding same lookup textNamed isSign on-import on-identifier on-string on-colorRef on-number on-zoomRange on-color colorOf
       on-next on-option after toBinaryStringTestType toBinaryNumericTestType widthIncrement isColors plainTest
       bangTest readTest readNumberList tokensToSemiColon readSimpleEval readPropertyValue readProperties readParts
       readSelector skipColors readRule parse importFile load define colorNamed idToObjectType add count
   selector-at-comma = refl
 
   -- a colors block takes a rule entry at its closing brace
-  pub colors-takes-a-rule : loaded countable (λ k. 0) (tokens "colors { } x") ≡ refused (full ruleEntry, tokens "x") empty
-  unfolding same lookup isSign on-import on-identifier on-string on-colorRef on-number on-zoomRange on-color colorOf
+  pub colors-takes-a-rule : loaded countable (λ k. 0) (tokens "colors { } x") ≡ refused (full ruleEntry, (0, 6)) empty
+  unfolding same lookup textNamed isSign on-import on-identifier on-string on-colorRef on-number on-zoomRange on-color colorOf
       on-next on-option after toBinaryStringTestType toBinaryNumericTestType widthIncrement isColors plainTest
       bangTest readTest readNumberList tokensToSemiColon readSimpleEval readPropertyValue readProperties readParts
       readSelector skipColors readRule parse importFile load define colorNamed idToObjectType add count
@@ -319,8 +319,8 @@ module _ (countable : Float → Bool) where
 
   -- a colour at its semicolon, defined anew without an entry
   pub once-for-each-name :
-      loaded countable (λ k. 1) (tokens "@a : # ; @a : # ; @b : # ; x") ≡ refused (full (colorEntry (name "b") black), tokens "x") (tables [] (colorDef (name "a") black ∷ []))
-  unfolding same lookup isSign on-import on-identifier on-string on-colorRef on-number on-zoomRange on-color colorOf
+      loaded countable (λ k. 1) (tokens "@a : # ; @a : # ; @b : # ; x") ≡ refused (full (colorEntry (name "b") black), (0, 24)) (tables [] (colorDef (name "a") black ∷ []))
+  unfolding same lookup textNamed isSign on-import on-identifier on-string on-colorRef on-number on-zoomRange on-color colorOf
       on-next on-option after toBinaryStringTestType toBinaryNumericTestType widthIncrement isColors plainTest
       bangTest readTest readNumberList tokensToSemiColon readSimpleEval readPropertyValue readProperties readParts
       readSelector skipColors readRule parse importFile load define colorNamed idToObjectType add count

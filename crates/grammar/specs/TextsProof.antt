@@ -8,10 +8,11 @@ use mathlib.Core.Option.{Option, none, some}
 use lib.ListN.{length}
 use lib.Ieee.{Float}
 use Rattle.base.specs.Map.{lookup}
-use Rattle.base.specs.Choice.{clash, and-left, and-right}
+use Rattle.base.specs.Bytes.{Bytes, same}
+use Rattle.base.specs.Choice.{by-test, clash, and-left, and-right}
 use Rattle.grammar.specs.Token.{Token}
 use Rattle.grammar.specs.Reading.{Reading}
-use Rattle.grammar.specs.Input.{Entry, Reason, token, end, Answer, refused, read}
+use Rattle.grammar.specs.Input.{Entry, Reason, Input, token, end, Answer, refused, read}
 use Rattle.grammar.specs.Entries.{entriesOf, tint}
 use Rattle.grammar.specs.Capacity.{Tables, empty, add, addAll, tablesOf, endless}
 use Rattle.grammar.specs.Stream.{Gives, here, _▸_, WholeTo, Whole}
@@ -20,53 +21,85 @@ use Rattle.grammar.specs.Sound.{load-sound}
 use Rattle.grammar.specs.Complete.{load-complete}
 use Rattle.grammar.specs.CapacityLaws.{add-tints}
 use Rattle.grammar.specs.AcceptedProof.{retold}
-use Rattle.grammar.specs.Texts.{Bundle, nextOf, listed, readBundle, HasReading, isRead, accepts, HasAll, HasNone}
+use Rattle.grammar.specs.Texts.{Bundle, Place, Cursor, cursor, nextFrom, textNamed, listed, readBundle, HasReading, isRead, accepts, HasAll, HasNone}
 
 no-way : {A : Type 0} → _≡_ {A = Bool} true false → A
 no-way z = clash {b = true} refl z
 
 module _ (countable : Float → Bool) (b : Bundle) where
+  abbrev i : Input Cursor Tables Place (Reason × Place)
+  i = listed countable b endless
+
   -- ---- a list gives itself
 
-  all-given : (p : List Token) → Gives (listed countable b endless) p p []
-  all-given [] = here
-  all-given (t ∷ p) = refl ▸ all-given p
+  all-given : (k n : ℕ) (p : List Token) → (m : ℕ) × Gives i (cursor k n p) p (cursor k m [])
+  all-given k n [] = (n, here)
+  all-given k n (t ∷ p) = let h = all-given k (suc (suc n)) p in (h .0, refl ▸ h .1)
 
-  given-cons : (s d o : List Token) (t : Token) → nextOf {R = Reason × List Token} s ≡ token t o d → s ≡ t ∷ d
-  given-cons [] d o t e = let z : _≡_ {A = Bool} true false = cc in no-way z
-  given-cons (x ∷ s) d o t e =
+  whole : (k n : ℕ) (p : List Token) → Whole i (cursor k n p) p
+  whole k n p = let h = all-given k n p in (_, (_, (h .1, refl)))
+
+  given-cons :
+      (k n : ℕ) (s : List Token) (d : Cursor) (o : Place) (t : Token)
+      → nextFrom {R = Reason × Place} k n s ≡ token t o d
+      → s ≡ t ∷ d .left
+  given-cons k n [] d o t e = let z : _≡_ {A = Bool} true false = cc in no-way z
+  given-cons k n (x ∷ s) d o t e =
       let p : x ≡ t = cc in
-      let q : s ≡ d = cc in
-      rw (p, q)
+      let q : cursor k (suc (suc n)) s ≡ d = cc in
+      rw p (ap (λ d. t ∷ d .left) q)
 
-  given-end : (s f : List Token) → nextOf {R = Reason × List Token} s ≡ end f → s ≡ []
-  given-end [] f e = refl
-  given-end (x ∷ s) f e = let z : _≡_ {A = Bool} true false = cc in no-way z
+  given-end : (k n : ℕ) (s : List Token) (f : Cursor) → nextFrom {R = Reason × Place} k n s ≡ end f → s ≡ []
+  given-end k n [] f e = refl
+  given-end k n (x ∷ s) f e = let z : _≡_ {A = Bool} true false = cc in no-way z
 
-  given-is : {s p u : List Token} → Gives (listed countable b endless) s p u → s ≡ p ++ u
+  given-is : {c d : Cursor} {p : List Token} → Gives i c p d → c .left ≡ p ++ d .left
   given-is here = refl
-  given-is (_▸_ {c = s} {d = d} {o = o} {t = t} e g) = given-cons s d o t e ∙ ap (λ v. t ∷ v) (given-is g)
+  given-is (_▸_ {c = c} {d = d} {o = o} {t = t} e g) = given-cons (c .text) (c .character) (c .left) d o t e ∙ ap (λ v. t ∷ v) (given-is g)
 
   append-nil : (p : List Token) → p ++ [] ≡ p
   append-nil [] = refl
   append-nil (t ∷ p) = ap (λ p. t ∷ p) (append-nil p)
 
-  whole-is : (s p f : List Token) → WholeTo (listed countable b endless) s p f → s ≡ p
-  whole-is s p f w = given-is (w .1 .0) ∙ ap (λ u. p ++ u) (given-end (w .0) f (w .1 .1)) ∙ append-nil p
+  whole-is : (c f : Cursor) (p : List Token) → WholeTo i c p f → c .left ≡ p
+  whole-is c f p w =
+      given-is (w .1 .0)
+      ∙ ap (λ u. p ++ u) (given-end (w .0 .text) (w .0 .character) (w .0 .left) f (w .1 .1))
+      ∙ append-nil p
 
-  long-enough : (s u p : List Token) → Gives (listed countable b endless) s p u → length p < suc (length s)
-  long-enough s u p g = rw (given-is g) (let h = fits p u in omega (arith, h))
+  long-enough : (c d : Cursor) (p : List Token) → Gives i c p d → length p < suc (length (c .left))
+  long-enough c d p g = rw (given-is g) (let h = fits p (d .left) in omega (arith, h))
     where
       fits : (p u : List Token) → length p ≤ length (p ++ u)
       fits [] u = omega arith
       fits (t ∷ p) u = let h = fits p u in omega arith
+
+  -- ---- the texts of the bundle
+
+  named-is : (k : ℕ) (n : Bytes) (e : Bundle) (c : Cursor) → textNamed k n e ≡ some c → lookup n e ≡ some (c .left)
+  unfolding textNamed lookup
+  named-is k n [] c q = let z : _≡_ {A = Bool} true false = cc in no-way z
+  named-is k n (t ∷ e) c q = by-test (same n (t .key))
+      (λ p. let r : some (cursor k 0 (t .value)) ≡ some c = rw p at q in
+      let u : cursor k 0 (t .value) ≡ c = cc in
+      rw p (ap (λ c. some (c .left)) u))
+      (λ p. rw p (named-is (suc k) n e c (rw p at q)))
+
+  is-named : (k : ℕ) (n : Bytes) (e : Bundle) (q : List Token) → lookup n e ≡ some q → (m : ℕ) × (textNamed k n e ≡ some (cursor m 0 q))
+  unfolding textNamed lookup
+  is-named k n [] q h = let z : _≡_ {A = Bool} true false = cc in no-way z
+  is-named k n (t ∷ e) q h = by-test (same n (t .key))
+      (λ p. let r : some (t .value) ≡ some q = rw p at h in
+      let u : t .value ≡ q = cc in
+      (k, rw p (ap (λ q. some (cursor k 0 q)) u)))
+      (λ p. let r = is-named (suc k) n e q (rw p at h) in (r .0, rw p (r .1)))
 
   -- ---- endless tables take everything
 
   tinted : (e : Entry) (τ υ : Tables) → some (add τ e) ≡ some υ → υ .colors ≡ tint (τ .colors) e
   tinted e τ υ m = let p : add τ e ≡ υ = cc in ap (λ υ. υ .colors) (sym p) ∙ add-tints e τ
 
-  all-put : (es : List Entry) (τ : Tables) → Puts (listed countable b endless) τ es (addAll τ es)
+  all-put : (es : List Entry) (τ : Tables) → Puts i τ es (addAll τ es)
   unfolding addAll
   all-put [] τ = kept
   all-put (e ∷ es) τ = refl ◂ all-put es (add τ e)
@@ -74,18 +107,30 @@ module _ (countable : Float → Bool) (b : Bundle) where
   -- ---- accepted exactly the grammar's
 
   pub sound :
-      (p : List Token) (js : Reading) (f : List Token) (υ : Tables)
+      (p : List Token) (js : Reading) (f : Cursor) (υ : Tables)
       → readBundle countable b p ≡ read js f υ
       → HasReading countable b p js
   sound p js f υ e =
-      let h = load-sound (listed countable b endless) tinted p empty js f υ e in
-      rw (whole-is p (h .0) f (h .1 .0)) (retold (λ n q x. x .1 .0 ∙ ap some (whole-is (x .0) q (x .1 .1 .0) (x .1 .1 .1))) (h .1 .1 .1))
+      let h = load-sound i tinted (cursor 0 0 p) empty js f υ e in
+      let q : p ≡ h .0 = whole-is (cursor 0 0 p) f (h .0) (h .1 .0) in
+      subst
+      (λ q. HasReading countable b q js)
+      (sym q)
+      (retold
+      (λ n q x. named-is 1 n b (x .0) (x .1 .0) ∙ ap some (whole-is (x .0) (x .1 .1 .0) q (x .1 .1 .1)))
+      (h .1 .1 .1))
 
-  pub complete : (p : List Token) (js : Reading) → HasReading countable b p js → readBundle countable b p ≡ read js [] (tablesOf js)
+  pub complete :
+      (p : List Token) (js : Reading)
+      → HasReading countable b p js
+      → (f : Cursor) × (readBundle countable b p ≡ read js f (tablesOf js))
   complete p js d =
-      load-complete (listed countable b endless) tinted long-enough p [] empty (tablesOf js) ([], (all-given p, refl))
-      (all-put (entriesOf js) empty)
-      (retold (λ n q x. (q, (x, ([], ([], (all-given q, refl)))))) d)
+      let w = whole 0 0 p in (
+        w .0,
+        load-complete i tinted long-enough (cursor 0 0 p) (w .0) empty (tablesOf js) (w .1)
+            (all-put (entriesOf js) empty)
+            (retold (λ n q x. let h = is-named 1 n b q x in (cursor (h .0) 0 q, (h .1, whole (h .0) 0 q))) d),
+      )
 
 module _ (countable : Float → Bool) where
   is-read : {A C T R : Type 0} (a : Answer A C T R) → isRead countable a ≡ true → (x : A) × ((c : C) × ((τ : T) × (a ≡ read x c τ)))
@@ -116,7 +161,7 @@ module _ (countable : Float → Bool) where
   has-none [] e = tt
   has-none (p ∷ ps) e = (
     λ js d.
-        clash (ap (isRead countable) (complete countable [] p js d))
+        clash (ap (isRead countable) (complete countable [] p js d .1))
         (not-not (accepts countable p) (and-left (not (accepts countable p)) (acceptsNone ps) e)),
     has-none ps (and-right (not (accepts countable p)) (acceptsNone ps) e),
   )
