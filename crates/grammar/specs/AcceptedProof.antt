@@ -8,7 +8,7 @@ use mathlib.Core.Option.{some}
 use lib.ListN.{length}
 use lib.Ieee.{Float}
 use Rattle.base.specs.Bytes.{Bytes}
-use Rattle.grammar.specs.Token.{Token}
+use Rattle.grammar.specs.Token.{Name, Token}
 use Rattle.grammar.specs.Reading.{Reading, Colors}
 use Rattle.grammar.specs.Input.{Entry, Input, Store, over, token, end, Answer, refused, read}
 use Rattle.grammar.specs.Reader.{load}
@@ -16,10 +16,10 @@ use Rattle.grammar.specs.Grammar.{IsSheet, finish, aRule, defined, dropp
 use Rattle.grammar.specs.Capacity.{Tables, empty, tablesOf, limited, stores, Bounded}
 use Rattle.grammar.specs.Stream.{Gives, here, _▸_, Whole, WholeTo, TextOf, Sheet, Fueled}
 use Rattle.grammar.specs.Laws.{gives-over, gives-back}
-use Rattle.grammar.specs.Alike.{Alike, bothRefused, bothRead, Stands}
+use Rattle.grammar.specs.Alike.{Alike, bothRefused, bothRead}
 use Rattle.grammar.specs.AlikeProof.{loads-alike}
 use Rattle.grammar.specs.CapacityLaws.{loaded, loads}
-use Rattle.grammar.specs.Accepted.{Reads, loadInto, Accepted, Accepts, OneReading, StoredAccepted, StoredAccepts}
+use Rattle.grammar.specs.Accepted.{Reads, loadInto, Accepted, Accepts, OneReading, StoredAlike, StoredAccepted, StoredAccepts}
 
 -- other words for the texts of the bundle
 pub retold :
@@ -65,27 +65,26 @@ module _ {C T P R : Type 0} (i : Input C T P R) where
         h .1 .1 .1,
       )
 
-  module _ (fueled : Fueled i) where
-    pub accepts : Accepts i
-    accepts capacity c js r b =
-        let w = r .1 .0 in
-        let s = limited capacity in
-        let g = i .fuel in (
-          w .0,
-          loads capacity (over i g s) refl
-              (λ c d p h. fueled c d p (gives-back i g s h))
-              c (w .0) (r .0) js (w .1 .0, (gives-over i g s (w .1 .1 .0), w .1 .1 .1))
-              (sheet-over i g s (r .1 .1)) b,
-        )
+  pub accepts : Accepts i
+  accepts fueled capacity c js r b =
+      let w = r .1 .0 in
+      let s = limited capacity in
+      let g = i .fuel in (
+        w .0,
+        loads capacity (over i g s) refl (λ c d p h. fueled c d p (gives-back i g s h)) c (w .0) (r .0) js
+            (w .1 .0, (gives-over i g s (w .1 .1 .0), w .1 .1 .1))
+            (sheet-over i g s (r .1 .1)) b,
+      )
 
-    -- both fit into tables that are large enough for both
-    pub one-reading : OneReading i
-    one-reading c js ks r q =
-        let capacity : ℕ → ℕ = λ k. stores k js + stores k ks in
-        let a = accepts capacity c js r (λ k. omega arith) in
-        let b = accepts capacity c ks q (λ k. omega arith) in
-        let e : _≡_ {A = Answer Reading C Tables R} (read js (a .0) (tablesOf js)) (read ks (b .0) (tablesOf ks)) = sym (a .1) ∙ b .1 in
-        cc
+  -- both fit into tables that are large enough for both
+  pub one-reading : OneReading i
+  one-reading fueled c js ks r q =
+      let capacity : ℕ → ℕ = λ k. stores k js + stores k ks in
+      let a = accepts fueled capacity c js r (λ k. omega arith) in
+      let b = accepts fueled capacity c ks q (λ k. omega arith) in
+      let e : _≡_ {A = Answer Reading C Tables R} (read js (a .0) (tablesOf js)) (read ks (b .0) (tablesOf ks)) =
+      sym (a .1) ∙ b .1 in
+      cc
 
 -- an answer that has read something is alike only to one that has read the same
 module _ {A C T U R : Type 0} {Rel : T → U → Type 0} where
@@ -113,22 +112,21 @@ module _ {A C T U R : Type 0} {Rel : T → U → Type 0} where
       (τ, (rw (p, q), subst (λ υ. Rel τ υ) r s))
   read-left {x = x} {c = c} {υ = υ} (bothRefused s) e = let z : _≡_ {A = Bool} true false = cc in absurd (subst (λ b. cond b Unit ⊥) z tt)
 
-module _ {C T P R : Type 0} (i : Input C T P R) (Rel : T → Tables → Type 0) (capacity : ℕ → ℕ)
-    (stands : Stands Rel (i .store) (limited capacity)) (fueled : Fueled i) where
-  alike : (c : C) (τ : T) → Rel τ empty → Alike Rel (load i c τ) (loadInto i capacity c)
-  alike c τ s =
-      loads-alike i (i .fuel) (limited capacity) Rel stands fueled
+module _ {C T P R : Type 0} (i : Input C T P R) (Genuine : Name → Type 0) (Rel : T → Tables → Type 0) (capacity : ℕ → ℕ) where
+  pub stored-alike : StoredAlike i Genuine Rel capacity
+  stored-alike n stands fueled c τ s =
+      loads-alike i (i .fuel) (limited capacity) Genuine Rel n stands fueled
       (λ c d p h. fueled c d p (gives-back i (i .fuel) (limited capacity) h))
       c τ empty s
 
-  pub stored-accepted : StoredAccepted i Rel capacity
-  stored-accepted c f τ υ js s e =
-      let h = read-right (alike c τ s) e in
+  pub stored-accepted : StoredAccepted i Genuine Rel capacity
+  stored-accepted n stands fueled c f τ υ js s e =
+      let h = read-right (stored-alike n stands fueled c τ s) e in
       let a = accepted i capacity c f js (h .0) (h .1 .0) in
       (a .0, (a .1 .0, subst (Rel υ) (a .1 .1) (h .1 .1)))
 
-  pub stored-accepts : StoredAccepts i Rel capacity
-  stored-accepts c τ js s r b =
+  pub stored-accepts : StoredAccepts i Genuine Rel capacity
+  stored-accepts n stands fueled c τ js s r b =
       let a = accepts i fueled capacity c js r b in
-      let h = read-left (alike c τ s) (a .1) in
+      let h = read-left (stored-alike n stands fueled c τ s) (a .1) in
       (a .0, (h .0, (h .1 .0, h .1 .1)))

@@ -18,9 +18,10 @@ use Rattle.grammar.specs.Stream.{Gives, here, _▸_, Ample, Fueled}
 use Rattle.grammar.specs.Laws.{join, found, gives-over}
 use Rattle.grammar.specs.Sound.{test-reads, value-reads, selector-reads, rule-reads, color-reads}
 use Rattle.grammar.specs.Complete.{rule-long}
-use Rattle.grammar.specs.Alike.{Alike, bothRefused, bothRead, BothPut, bothFull, bothTake, Stands, LoadsAlike}
+use Rattle.grammar.specs.Alike.{Alike, bothRefused, bothRead, BothPut, bothFull, bothTake, Proper, Stands, NamesGenuine, LoadsAlike}
 
-module _ {C T U P R : Type 0} (i : Input C T P R) (g : C → ℕ) (z : Store U) (Rel : T → U → Type 0) (stands : Stands Rel (i .store) z) where
+module _ {C T U P R : Type 0} (i : Input C T P R) (g : C → ℕ) (z : Store U) (Genuine : Name → Type 0)
+    (Rel : T → U → Type 0) (genuine : NamesGenuine Genuine i) (stands : Stands Genuine Rel (i .store) z) where
   abbrev j : Input C U P R
   j = over i g z
 
@@ -112,14 +113,14 @@ module _ {C T U P R : Type 0} (i : Input C T P R) (g : C → ℕ) (z : Store U) 
 
     colorRef-alike :
         (t : Token) {f : Name → Answer A C T R} {g : Answer A C T R} {h : Name → Answer A C U R} {k : Answer A C U R}
-        → ((x : Name) → Alike Rel (f x) (h x))
+        → ((x : Name) → t ≡ colorRef x → Alike Rel (f x) (h x))
         → Alike Rel g k
         → Alike Rel (on-colorRef t f g) (on-colorRef t h k)
     unfolding on-colorRef
     colorRef-alike (import x) m n = n
     colorRef-alike (identifier x) m n = n
     colorRef-alike (string x) m n = n
-    colorRef-alike (colorRef x) m n = m x
+    colorRef-alike (colorRef x) m n = m x refl
     colorRef-alike (number x) m n = n
     colorRef-alike (zoomRange x y) m n = n
     colorRef-alike (color x) m n = n
@@ -209,12 +210,14 @@ module _ {C T U P R : Type 0} (i : Input C T P R) (g : C → ℕ) (z : Store U) 
     name-alike c s k = token-alike c s λ t o d e. identifier-alike t (λ a. k a o d t e) (bothRefused s)
 
     keep-alike :
-        (e : Entry) (c : C) {τ : T} {υ : U} {f : T → Answer A C T R} {h : U → Answer A C U R}
+        (e : Entry)
+        → Proper Genuine e
+        → (c : C) {τ : T} {υ : U} {f : T → Answer A C T R} {h : U → Answer A C U R}
         → Rel τ υ
         → ((φ : T) (ψ : U) → Rel φ ψ → Alike Rel (f φ) (h ψ))
         → Alike Rel (keep i e c τ f) (keep j e c υ h)
     unfolding on-option
-    keep-alike e c {τ} {υ} {f} {h} s k = go (i .store .put e τ) (z .put e υ) (stands .puts τ υ e s)
+    keep-alike e w c {τ} {υ} {f} {h} s k = go (i .store .put e τ) (z .put e υ) (stands .puts τ υ e w s)
       where
         go :
             (a : Option T) (b : Option U)
@@ -226,13 +229,13 @@ module _ {C T U P R : Type 0} (i : Input C T P R) (g : C → ℕ) (z : Store U) 
   -- ---- tests
 
   kept-test : (x : Test) (c : C) {τ : T} {υ : U} → Rel τ υ → Alike Rel (keepTest i x c τ) (keepTest j x c υ)
-  kept-test x c s = keep-alike (testEntry x) c s λ φ ψ s. bothRead s
+  kept-test x c s = keep-alike (testEntry x) tt c s λ φ ψ s. bothRead s
 
   operand-alike : (op : TextTest) (a : Name) (c : C) {τ : T} {υ : U} → Rel τ υ → Alike Rel (readOperand i op a c τ) (readOperand j op a c υ)
   operand-alike op a c s = token-alike c s λ t o d e.
       identifier-alike t (λ b. expect-alike rightBracket d s λ o f t e. kept-test _ f s)
       (number-alike t (λ x. expect-alike rightBracket d s λ o f t e.
-      test-alike (i .countable x) (keep-alike (numberEntry x) f s λ φ ψ s. kept-test _ f s) (bothRefused s))
+      test-alike (i .countable x) (keep-alike (numberEntry x) tt f s λ φ ψ s. kept-test _ f s) (bothRefused s))
       (bothRefused s))
 
   number-test-alike :
@@ -240,7 +243,7 @@ module _ {C T U P R : Type 0} (i : Input C T P R) (g : C → ℕ) (z : Store U) 
       → Rel τ υ
       → Alike Rel (readNumber i op a c τ) (readNumber j op a c υ)
   number-test-alike op a c s = token-alike c s λ t o d e.
-      number-alike t (λ x. expect-alike rightBracket d s λ o f t e. keep-alike (numberEntry x) f s λ φ ψ s. kept-test _ f s)
+      number-alike t (λ x. expect-alike rightBracket d s λ o f t e. keep-alike (numberEntry x) tt f s λ φ ψ s. kept-test _ f s)
       (bothRefused s)
 
   plain-alike : (a : Name) (t : Token) (o : P) (d : C) {τ : T} {υ : U} → Rel τ υ → Alike Rel (plainTest i a τ t o d) (plainTest j a υ t o d)
@@ -294,7 +297,7 @@ module _ {C T U P R : Type 0} (i : Input C T P R) (g : C → ℕ) (z : Store U) 
   unfolding readNumberList
   numbers-alike zero l x c a b s = never a
   numbers-alike (suc k) zero x c a b s = never b
-  numbers-alike (suc k) (suc l) x c a b s = keep-alike (numberEntry x) c s λ φ ψ s. token-alike c s λ t o d e.
+  numbers-alike (suc k) (suc l) x c a b s = keep-alike (numberEntry x) tt c s λ φ ψ s. token-alike c s λ t o d e.
       test-alike (isSign semiColon t) (bothRead s)
       (test-alike (isSign comma t) (token-alike d s λ t o f h.
       number-alike t
@@ -327,7 +330,7 @@ module _ {C T U P R : Type 0} (i : Input C T P R) (g : C → ℕ) (z : Store U) 
   unfolding readSimpleEval
   eval-alike k l o c a b s =
       after-alike (tokens-alike k l c a b s) λ ts d τ υ q s.
-      option-alike (widthIncrement ts) (bothRefused s) λ x. keep-alike (numberEntry x) d s λ φ ψ s. bothRead s
+      option-alike (widthIncrement ts) (bothRefused s) λ x. keep-alike (numberEntry x) tt d s λ φ ψ s. bothRead s
 
   value-alike :
       (k l : ℕ) (Γ : Colors) (c : C) {τ : T} {υ : U}
@@ -345,7 +348,7 @@ module _ {C T U P R : Type 0} (i : Input C T P R) (g : C → ℕ) (z : Store U) 
       (bothRefused s))))
       (string-alike t (λ n. expect-alike semiColon d s λ o f t h. bothRead s)
       (color-alike t (λ x. expect-alike semiColon d s λ o f t h. bothRead s)
-      (colorRef-alike t (λ n. option-alike (colorNamed n Γ) (bothRefused s) λ x. expect-alike semiColon d s λ o f t h. bothRead s)
+      (colorRef-alike t (λ n q. option-alike (colorNamed n Γ) (bothRefused s) λ x. expect-alike semiColon d s λ o f t h. bothRead s)
       (number-alike t (λ x. after-alike (numbers-alike k l x d (behind e a) (behind e b) s) λ xs f τ υ q s. bothRead s)
       (bothRefused s)))))
 
@@ -361,7 +364,7 @@ module _ {C T U P R : Type 0} (i : Input C T P R) (g : C → ℕ) (z : Store U) 
   properties-alike (suc k) (suc l) Γ c a b s = token-alike c s λ t o d e.
       identifier-alike t (λ n. expect-alike colon d s λ o f t h.
       after-alike (value-alike k l Γ f (later (e ▸ h ▸ here) a) (later (e ▸ h ▸ here) b) s) λ x w τ υ q s.
-      keep-alike (propertyEntry (property n x)) w s λ φ ψ s.
+      keep-alike (propertyEntry (property n x)) tt w s λ φ ψ s.
       let m = (value-reads i k Γ f _ x w τ q) .1 .0 in
       after-alike
       (properties-alike k l Γ w (later m (later (h ▸ here) (behind e a))) (later m (later (h ▸ here) (behind e b))) s)
@@ -381,8 +384,8 @@ module _ {C T U P R : Type 0} (i : Input C T P R) (g : C → ℕ) (z : Store U) 
   parts-alike zero l σ c a b s = never a
   parts-alike (suc k) zero σ c a b s = never b
   parts-alike (suc k) (suc l) σ c a b s = token-alike c s λ t o d e.
-      test-alike (isSign leftBrace t) (keep-alike (selectorEntry σ) d s λ φ ψ s. bothRead s)
-      (test-alike (isSign comma t) (keep-alike (selectorEntry σ) d s λ φ ψ s. bothRead s)
+      test-alike (isSign leftBrace t) (keep-alike (selectorEntry σ) tt d s λ φ ψ s. bothRead s)
+      (test-alike (isSign comma t) (keep-alike (selectorEntry σ) tt d s λ φ ψ s. bothRead s)
       (zoom-alike t (λ x y. parts-alike k l (withZoom σ x y) d (behind e a) (behind e b) s)
       (test-alike (isSign leftBracket t) (after-alike (test-reads-alike d s) λ x f τ υ q s.
       let m = (test-reads i d _ x f τ q) .1 .0 in
@@ -418,7 +421,7 @@ module _ {C T U P R : Type 0} (i : Input C T P R) (g : C → ℕ) (z : Store U) 
       (ss : List Selector) (ps : List Property) (c : C) {τ : T} {υ : U}
       → Rel τ υ
       → Alike Rel (keepRule i ss ps c τ) (keepRule j ss ps c υ)
-  kept-rule ss ps c s = keep-alike ruleEntry c s λ φ ψ s. bothRead s
+  kept-rule ss ps c s = keep-alike ruleEntry tt c s λ φ ψ s. bothRead s
 
   rule-alike :
       (k l : ℕ) (Γ : Colors) (t : Token) (o : P) (c d : C) {τ : T} {υ : U}
@@ -450,9 +453,9 @@ module _ {C T U P R : Type 0} (i : Input C T P R) (g : C → ℕ) (z : Store U) 
 
   -- ---- sheets
 
-  color-def-alike : (n : Name) (c : C) {τ : T} {υ : U} → Rel τ υ → Alike Rel (readColorDef i n c τ) (readColorDef j n c υ)
-  color-def-alike n c s = expect-alike colon c s λ o d t e. token-alike d s λ x o f e. expect-alike semiColon f s λ o w t e.
-      option-alike (colorOf x) (bothRead s) λ v. keep-alike (colorEntry n v) w s λ φ ψ s. bothRead s
+  color-def-alike : (n : Name) → Genuine n → (c : C) {τ : T} {υ : U} → Rel τ υ → Alike Rel (readColorDef i n c τ) (readColorDef j n c υ)
+  color-def-alike n y c s = expect-alike colon c s λ o d t e. token-alike d s λ x o f e. expect-alike semiColon f s λ o w t e.
+      option-alike (colorOf x) (bothRead s) λ v. keep-alike (colorEntry n v) y w s λ φ ψ s. bothRead s
 
   before-alike :
       (js : Reading) {a : Answer Reading C T R} {b : Answer Reading C U R}
@@ -474,7 +477,7 @@ module _ {C T U P R : Type 0} (i : Input C T P R) (g : C → ℕ) (z : Store U) 
   parse-alike imp imq hi (suc k) (suc l) c {τ} {υ} a b s = next-alike (i .next c) s (λ d. bothRead s) λ t o d e.
       import-alike t (λ n. expect-alike semiColon d s λ o f t h. after-alike (hi n f _ _ s) λ js y τ υ q s.
       before-alike js (parse-alike imp imq hi k l f (later (h ▸ here) (behind e a)) (later (h ▸ here) (behind e b)) s))
-      (colorRef-alike t (λ n. after-alike (color-def-alike n d s) λ js f τ υ q s.
+      (colorRef-alike t (λ n q. after-alike (color-def-alike n (genuine c d o n (found i e q)) d s) λ js f τ υ q s.
       let m = (color-reads i n d _ js f τ q) .1 .1 .0 in
       before-alike js (parse-alike imp imq hi k l f (later m (behind e a)) (later m (behind e b)) s))
       (after-alike (ruled t o d e) λ r f τ υ q s.
@@ -505,5 +508,9 @@ module _ {C T U P R : Type 0} (i : Input C T P R) (g : C → ℕ) (z : Store U) 
     unfolding load
     load-alike c τ υ s = parse-alike (importFile i 8) (importFile j 8) (import-file-alike 8) (i .fuel c) (g c) c (fueled c) (fueled′ c) s
 
-pub loads-alike : {C T U P R : Type 0} (i : Input C T P R) (g : C → ℕ) (z : Store U) (Rel : T → U → Type 0) → LoadsAlike i g z Rel
-loads-alike i g z Rel stands f f′ c τ υ s = load-alike i g z Rel stands f (λ c d p h. f′ c d p (gives-over i g z h)) c τ υ s
+pub loads-alike :
+    {C T U P R : Type 0} (i : Input C T P R) (g : C → ℕ) (z : Store U) (Genuine : Name → Type 0) (Rel : T → U → Type 0)
+    → NamesGenuine Genuine i
+    → LoadsAlike Genuine i g z Rel
+loads-alike i g z Genuine Rel n stands f f′ c τ υ s =
+    load-alike i g z Genuine Rel n stands f (λ c d p h. f′ c d p (gives-over i g z h)) c τ υ s

@@ -9,8 +9,8 @@ pub mod Grammar
 pub mod Stream
 pub mod Entries
 pub mod Capacity
-pub mod Accepted
 pub mod Alike
+pub mod Accepted
 pub mod Laws
 pub mod Sound
 pub mod Complete
