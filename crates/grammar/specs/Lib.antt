@@ -9,12 +9,14 @@ pub mod Grammar
 pub mod Stream
 pub mod Entries
 pub mod Capacity
+pub mod Counts
 pub mod Alike
 pub mod Accepted
 pub mod Laws
 pub mod Sound
 pub mod Complete
 pub mod CapacityLaws
+pub mod CountsLaws
 pub mod AlikeProof
 pub mod AcceptedProof
 pub mod Texts
