@@ -1,25 +1,22 @@
 -- The proof of what Accepted states.
-use Prim.Native.Nat.{ℕ, suc, _+_, _≤_}
+use Prim.Native.Nat.{ℕ, _+_}
 use native.Mathlib.Omega.{arith}
-use mathlib.Core.Path.{_≡_, refl, sym, _∙_, ap, subst}
+use mathlib.Core.Path.{_≡_, refl, sym, _∙_, subst}
 use mathlib.Core.Bool.{Bool, true, false, cond}
-use mathlib.Core.List.{List, [], _∷_, _++_}
-use mathlib.Core.Option.{some}
-use lib.ListN.{length}
+use mathlib.Core.List.{List}
 use lib.Ieee.{Float}
 use Rattle.base.specs.Bytes.{Bytes}
 use Rattle.grammar.specs.Token.{Name, Token}
 use Rattle.grammar.specs.Reading.{Reading, Colors}
-use Rattle.grammar.specs.Input.{Entry, Input, Store, over, token, end, Answer, refused, read}
-use Rattle.grammar.specs.Reader.{load}
+use Rattle.grammar.specs.Input.{Input, Store, over, Answer, read}
 use Rattle.grammar.specs.Grammar.{IsSheet, finish, aRule, defined, dropped, imported}
-use Rattle.grammar.specs.Capacity.{Tables, empty, tablesOf, limited, stores, Bounded}
-use Rattle.grammar.specs.Stream.{Gives, here, _▸_, Whole, WholeTo, TextOf, Sheet, Fueled}
+use Rattle.grammar.specs.Capacity.{Tables, empty, tablesOf, limited, stores}
+use Rattle.grammar.specs.Stream.{Sheet}
 use Rattle.grammar.specs.Laws.{gives-over, gives-back}
 use Rattle.grammar.specs.Alike.{Alike, bothRefused, bothRead}
 use Rattle.grammar.specs.AlikeProof.{loads-alike}
 use Rattle.grammar.specs.CapacityLaws.{loaded, loads}
-use Rattle.grammar.specs.Accepted.{Reads, loadInto, Accepted, Accepts, OneReading, StoredAlike, StoredAccepted, StoredAccepts}
+use Rattle.grammar.specs.Accepted.{Accepted, Accepts, OneReading, StoredAlike, StoredAccepted, StoredAccepts}
 
 -- other words for the texts of the bundle
 pub retold :

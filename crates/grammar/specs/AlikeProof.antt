@@ -1,7 +1,7 @@
 -- The proof of LoadsAlike: a term that copies the reader.
-use Prim.Native.Nat.{ℕ, zero, suc, _+_, _≤_, _<_}
+use Prim.Native.Nat.{ℕ, zero, suc, _+_, _≤_}
 use native.Mathlib.Omega.{arith}
-use mathlib.Core.Path.{_≡_, refl, sym, _∙_, ap, subst}
+use mathlib.Core.Path.{_≡_, refl, subst}
 use mathlib.Core.Bool.{Bool, true, false, cond}
 use mathlib.Core.List.{List, [], _∷_, _++_}
 use mathlib.Core.Option.{Option, none, some}
@@ -10,10 +10,10 @@ use lib.Ieee.{Float}
 use Rattle.base.specs.Bytes.{ascii, same}
 use Rattle.sheet.specs.Sheet.{TextTest, NumericTest, Color}
 use Rattle.grammar.specs.Token.{Name, joined, Sign, Token, import, identifier, string, colorRef, number, zoomRange, color, sign, rightBracket, leftBracket, leftBrace, rightBrace, bang, questionMark, colon, doubleColon, semiColon, comma}
-use Rattle.grammar.specs.View.{isSign, on-sign, on-import, on-identifier, on-string, on-colorRef, on-number, on-zoomRange, on-color, colorOf}
-use Rattle.grammar.specs.Reading.{Test, Selector, Property, Rule, ruleItem, Reading, Colors, colorNamed, property, bare, withZoom, withTest, withLayer, idToObjectType}
+use Rattle.grammar.specs.View.{isSign, on-import, on-identifier, on-string, on-colorRef, on-number, on-zoomRange, on-color, colorOf}
+use Rattle.grammar.specs.Reading.{Test, Selector, Property, ruleItem, Reading, Colors, colorNamed, property, bare, withZoom, withTest, withLayer, idToObjectType}
 use Rattle.grammar.specs.Input.{Entry, ruleEntry, selectorEntry, testEntry, propertyEntry, numberEntry, colorEntry, full, Store, Next, broken, end, token, Input, over, Answer, refused, read, on-next, on-option, after, keep}
-use Rattle.grammar.specs.Reader.{toBinaryStringTestType, toBinaryNumericTestType, widthIncrement, isColors, readMandatoryToken, expectSimpleToken, readIdentifier, keepTest, readOperand, readNumber, plainTest, bangTest, readKey, readTest, readNumberList, tokensToSemiColon, readSimpleEval, readPropertyValue, readProperties, readParts, readSelector, skipColors, keepRule, readRule, keepColor, readColorDef, before, parse, importFile, load}
+use Rattle.grammar.specs.Reader.{toBinaryStringTestType, toBinaryNumericTestType, widthIncrement, isColors, readMandatoryToken, expectSimpleToken, readIdentifier, keepTest, readOperand, readNumber, plainTest, bangTest, readKey, readTest, readNumberList, tokensToSemiColon, readSimpleEval, readPropertyValue, readProperties, readParts, readSelector, skipColors, keepRule, readRule, readColorDef, before, parse, importFile, load}
 use Rattle.grammar.specs.Stream.{Gives, here, _▸_, Ample, Fueled}
 use Rattle.grammar.specs.Laws.{join, found, gives-over}
 use Rattle.grammar.specs.Sound.{test-reads, value-reads, selector-reads, rule-reads, color-reads}

@@ -1,8 +1,8 @@
 -- Tables as lists of entries, with a capacity for each: what a reading takes in each, and when an entry has room.
 use Prim.Native.Nat.{ℕ, _≤_}
-use mathlib.Core.Bool.{Bool, true, false, cond}
+use mathlib.Core.Bool.{Bool, cond}
 use mathlib.Core.List.{List, [], _∷_, _++_}
-use mathlib.Core.Option.{Option, none, some}
+use mathlib.Core.Option.{none, some}
 use lib.ListN.{length}
 use lib.Dec.{leb, eqb}
 use Rattle.grammar.specs.Reading.{Reading, Colors, define, colorsAfter}

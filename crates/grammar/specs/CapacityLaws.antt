@@ -1,18 +1,18 @@
 -- Within the capacities exactly the grammar's texts are loaded, and the tables hold what they store.
-use Prim.Native.Nat.{ℕ, zero, suc, _+_, _≤_, _<_}
+use Prim.Native.Nat.{ℕ, suc, _+_, _≤_}
 use native.Mathlib.Omega.{arith}
 use mathlib.Core.Path.{_≡_, refl, sym, _∙_, ap, subst}
 use mathlib.Core.Bool.{Bool, true, false, cond}
 use mathlib.Core.List.{List, [], _∷_, _++_}
 use mathlib.Core.Option.{Option, none, some}
 use lib.ListN.{length}
-use lib.Dec.{leb, eqb}
+use lib.Dec.{eqb}
 use borrow.Author.Tests.{eqb-true, leb-true, leb-false, le-leb}
 use Rattle.base.specs.Bytes.{same}
 use Rattle.base.specs.Choice.{by-test, clash}
 use Rattle.sheet.specs.Sheet.{Color}
 use Rattle.grammar.specs.Token.{Name, Token}
-use Rattle.grammar.specs.Reading.{Reading, Colors, define, colorNamed, colorsAfter}
+use Rattle.grammar.specs.Reading.{Reading, Colors, define, colorNamed}
 use Rattle.grammar.specs.Input.{Entry, ruleEntry, selectorEntry, testEntry, propertyEntry, numberEntry, colorEntry, tableOf, Input, read}
 use Rattle.grammar.specs.Reader.{load}
 use Rattle.grammar.specs.Entries.{entriesOf, one, count, tint, tints}

@@ -10,13 +10,13 @@ use lib.Ieee.{Float}
 use Rattle.base.specs.Bytes.{Bytes, ascii, same}
 use Rattle.base.specs.Choice.{by-test}
 use Rattle.base.proofs.Compare.{same-true, same-refl}
-use Rattle.sheet.specs.Sheet.{ObjectType, Color}
-use Rattle.grammar.specs.Token.{Name, joined, Sign, Token, import, identifier, string, colorRef, number, zoomRange, color, sign, leftBrace, bang, colon, semiColon, comma}
-use Rattle.grammar.specs.View.{isSign, on-sign, on-import, on-identifier, on-string, on-colorRef, on-number, on-zoomRange, on-color, colorOf}
-use Rattle.grammar.specs.Reading.{Test, Value, Selector, Property, Rule, ruleItem, colorItem, Reading, Colors, define, colorsAfter, bare, idToObjectType}
+use Rattle.sheet.specs.Sheet.{ObjectType}
+use Rattle.grammar.specs.Token.{Name, Sign, Token, identifier, number, sign, leftBrace, bang, colon, semiColon, comma}
+use Rattle.grammar.specs.View.{isSign, on-import, on-identifier, on-string, on-colorRef, on-number, on-zoomRange, on-color, colorOf}
+use Rattle.grammar.specs.Reading.{Test, Value, Selector, Property, Rule, ruleItem, Reading, Colors, define, colorsAfter, bare, idToObjectType}
 use Rattle.grammar.specs.Input.{Entry, ruleEntry, selectorEntry, colorEntry, token, end, Input, Answer, read, on-next, on-option, after}
 use Rattle.grammar.specs.Reader.{toBinaryStringTestType, toBinaryNumericTestType, widthIncrement, isColors, plainTest, bangTest, readTest, readNumberList, tokensToSemiColon, readSimpleEval, readPropertyValue, readProperties, readParts, readSelector, skipColors, readRule, before, parse, importFile, load}
-use Rattle.grammar.specs.Grammar.{IsName, single, double, IsKey, named, quotedKey, quotedDouble, eq, ne, lt, le, gt, ge, plainOperand, digitsOperand, IsTest, there, trueTag, falseTag, missing, untrue, compared, measured, IsNumbers, lastNumber, moreNumbers, IsDelta, zeroDelta, someDelta, IsValue, oneWord, twoWords, aString, aColor, reference, list, eval, IsProperties, closed, assign, HasParts, nothing, zooms, tested, class, layer, IsSelector, typed, IsSkipped, stop, over, IsRule, body, auxiliary, lastSelector, selectorThen, IsSheet, finish, aRule, defined, dropped, imported}
+use Rattle.grammar.specs.Grammar.{IsName, single, double, IsKey, named, quotedKey, quotedDouble, eq, ne, lt, le, gt, ge, plainOperand, digitsOperand, IsTest, there, trueTag, falseTag, missing, untrue, compared, measured, IsNumbers, lastNumber, moreNumbers, IsDelta, zeroDelta, someDelta, IsValue, oneWord, twoWords, aString, aColor, reference, list, eval, IsProperties, closed, assign, HasParts, nothing, zooms, tested, class, layer, typed, IsSkipped, stop, over, IsRule, body, auxiliary, lastSelector, selectorThen, finish, aRule, defined, dropped, imported}
 use Rattle.grammar.specs.Entries.{testEntries, testsEntries, numbersEntries, valueEntries, propertiesEntries, selectorsEntries, ruleEntries, entriesOf, tint}
 use Rattle.grammar.specs.Stream.{Gives, here, _▸_, WholeTo, Sheet, Fueled}
 use Rattle.grammar.specs.Laws.{Puts, kept, _◂_, uncons, split, unput, apart}

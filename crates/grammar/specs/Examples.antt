@@ -4,25 +4,24 @@ use Prim.Native.Nat.{ℕ}
 use Prim.Native.String.{String}
 use mathlib.Core.Path.{_≡_, refl}
 use mathlib.Core.Bool.{Bool, true, false, cond, _&&_}
-use mathlib.Core.List.{List, [], _∷_, _++_, map}
-use mathlib.Core.Option.{Option, none, some}
-use lib.ListN.{length}
+use mathlib.Core.List.{List, [], _∷_, map}
+use mathlib.Core.Option.{none, some}
 use lib.Dec.{eqb}
 use lib.Ieee.{Float}
-use Rattle.base.specs.Bytes.{Bytes, ascii, same}
+use Rattle.base.specs.Bytes.{ascii, same}
 use Rattle.base.specs.Map.{entry, lookup}
 use Rattle.base.specs.Choice.{and-left, and-right}
 use Rattle.sheet.specs.Sheet.{way, isFalse, equal, Color}
 use Rattle.grammar.specs.Token.{Name, Token}
 use Rattle.grammar.specs.View.{isSign, on-import, on-identifier, on-string, on-colorRef, on-number, on-zoomRange, on-color, colorOf}
-use Rattle.grammar.specs.Reading.{unary, text, digits, colored, numbers, widthDelta, Reading, ruleItem, colorItem, rule, property, bare, withTest, withLayer, colorDef, define, colorNamed, idToObjectType, colorsAfter}
-use Rattle.grammar.specs.Input.{ruleEntry, selectorEntry, testEntry, propertyEntry, numberEntry, colorEntry, Reason, endOfFile, objectType, expected, colorReference, evalForm, noText, notWhole, tooDeep, full, on-next, on-option, after, Answer, refused, read}
+use Rattle.grammar.specs.Reading.{unary, text, digits, widthDelta, Reading, ruleItem, rule, property, bare, withTest, withLayer, colorDef, define, colorNamed, idToObjectType}
+use Rattle.grammar.specs.Input.{ruleEntry, selectorEntry, testEntry, numberEntry, colorEntry, Reason, endOfFile, objectType, expected, colorReference, evalForm, noText, notWhole, tooDeep, full, on-next, on-option, after, Answer, refused, read}
 use Rattle.grammar.specs.Reader.{toBinaryStringTestType, toBinaryNumericTestType, widthIncrement, isColors, plainTest, bangTest, readTest, readNumberList, tokensToSemiColon, readSimpleEval, readPropertyValue, readProperties, readParts, readSelector, skipColors, readRule, parse, importFile, load}
 use Rattle.grammar.specs.Entries.{count}
 use Rattle.grammar.specs.Capacity.{Tables, tables, empty, add, limited}
-use Rattle.grammar.specs.Texts.{Bundle, Place, Cursor, cursor, textNamed, listed, readBundle, accepts, HasReading, HasAll, HasNone}
+use Rattle.grammar.specs.Texts.{Bundle, Place, Cursor, cursor, textNamed, listed, readBundle, HasReading, HasAll, HasNone}
 use Rattle.grammar.specs.TextsProof.{sound, acceptsAll, acceptsNone, has-all, has-none}
-use Rattle.grammar.specs.Spelling.{name, nought, black, spelt, words, tokens}
+use Rattle.grammar.specs.Spelling.{name, nought, black, tokens}
 
 -- ---- has, and has not
 

@@ -10,7 +10,7 @@ use Rattle.base.specs.Bytes.{Bytes, ascii, same}
 use Rattle.sheet.specs.Sheet.{ObjectType, exists, notExists, isTrue, isFalse, TextTest, equal, notEqual, NumericTest, less, lessOrEqual, greater, greaterOrEqual, Color}
 use Rattle.grammar.specs.Token.{Name, joined, Sign, Token, import, identifier, string, colorRef, number, zoomRange, color, sign, leftParen, rightParen, leftBracket, rightBracket, leftBrace, rightBrace, equalSign, notEqualSign, lessSign, greaterSign, lessOrEqualSign, greaterOrEqualSign, bang, questionMark, colon, doubleColon, semiColon, comma}
 use Rattle.grammar.specs.View.{isSign, colorOf}
-use Rattle.grammar.specs.Reading.{Operand, plain, digits, Test, unary, text, numeric, Value, word, quoted, colored, numbers, widthDelta, Selector, Property, property, Rule, rule, Item, ruleItem, colorItem, Reading, Colors, define, colorNamed, colorsAfter, bare, withZoom, withTest, withLayer, idToObjectType}
+use Rattle.grammar.specs.Reading.{Operand, plain, digits, Test, unary, text, numeric, Value, word, quoted, colored, numbers, widthDelta, Selector, Property, property, Rule, rule, ruleItem, colorItem, Reading, Colors, define, colorNamed, colorsAfter, bare, withZoom, withTest, withLayer, idToObjectType}
 
 -- name = identifier [ ":" identifier ]
 pub data IsName : List Token → Name → Type 0 where

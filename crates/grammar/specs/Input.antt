@@ -5,8 +5,7 @@ use mathlib.Core.Option.{Option, none, some}
 use lib.Ieee.{Float}
 use Rattle.base.specs.Bytes.{Bytes}
 use Rattle.sheet.specs.Sheet.{Color}
-use Rattle.grammar.specs.Token.{Name, Sign, Token}
-use Rattle.grammar.specs.View.{on-sign, on-identifier}
+use Rattle.grammar.specs.Token.{Name, Token}
 use Rattle.grammar.specs.Reading.{Test, Selector, Property, Colors}
 
 -- what is stored; a selector takes the tests stored since the last, a rule the selectors and properties

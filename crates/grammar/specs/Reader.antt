@@ -1,16 +1,16 @@
 -- The reader: parser.rs, function by function, over any tokenizer and any tables. Loops and recursion take fuel.
--- A refusal in a token's name is where the token begins; all others are at the place reached.
+-- Refusals 4 reasons 2, 3 and 4 are where their token begins, reason 6 where the word eval does; all others at the place reached.
 use Prim.Native.Nat.{ℕ, zero, suc}
 use mathlib.Core.Bool.{Bool, true, false, cond}
 use mathlib.Core.List.{List, [], _∷_, _++_}
 use mathlib.Core.Option.{Option, none, some}
 use lib.Ieee.{Float, ofBits, binary64}
 use Rattle.base.specs.Bytes.{Bytes, ascii, same}
-use Rattle.sheet.specs.Sheet.{UnaryTest, exists, notExists, isTrue, isFalse, TextTest, equal, notEqual, NumericTest, less, lessOrEqual, greater, greaterOrEqual, Color}
+use Rattle.sheet.specs.Sheet.{exists, notExists, isTrue, isFalse, TextTest, equal, notEqual, NumericTest, less, lessOrEqual, greater, greaterOrEqual}
 use Rattle.grammar.specs.Token.{Name, joined, Sign, Token, leftParen, rightParen, leftBracket, rightBracket, leftBrace, rightBrace, equalSign, notEqualSign, lessSign, greaterSign, lessOrEqualSign, greaterOrEqualSign, bang, questionMark, colon, doubleColon, semiColon, comma}
-use Rattle.grammar.specs.View.{isSign, on-sign, on-import, on-identifier, on-string, on-colorRef, on-number, on-zoomRange, on-color, colorOf}
-use Rattle.grammar.specs.Reading.{Operand, plain, digits, Test, unary, text, numeric, Value, word, quoted, colored, numbers, widthDelta, Selector, Property, property, Rule, rule, Item, ruleItem, colorItem, Reading, Colors, colorNamed, bare, withZoom, withTest, withLayer, addSelector, idToObjectType}
-use Rattle.grammar.specs.Input.{Entry, ruleEntry, selectorEntry, testEntry, propertyEntry, numberEntry, colorEntry, Reason, endOfFile, objectType, unexpected, expected, colorReference, evalForm, noText, notWhole, tooDeep, Input, Answer, refused, read, on-next, on-option, after, fail, keep}
+use Rattle.grammar.specs.View.{on-sign, on-import, on-identifier, on-string, on-colorRef, on-number, on-zoomRange, on-color, colorOf}
+use Rattle.grammar.specs.Reading.{plain, digits, Test, unary, text, numeric, Value, word, quoted, colored, numbers, widthDelta, Selector, Property, property, Rule, rule, ruleItem, colorItem, Reading, Colors, colorNamed, bare, withZoom, withTest, withLayer, addSelector, idToObjectType}
+use Rattle.grammar.specs.Input.{ruleEntry, selectorEntry, testEntry, propertyEntry, numberEntry, colorEntry, endOfFile, objectType, unexpected, expected, colorReference, evalForm, noText, notWhole, tooDeep, Input, Answer, refused, read, on-next, on-option, after, fail, keep}
 
 unfoldable pub toBinaryStringTestType : Token → Option TextTest
 toBinaryStringTestType t =
@@ -55,6 +55,10 @@ widthIncrement ts =
 -- the auxiliary section from Maps.ME MapCSS
 unfoldable pub isColors : Token → Bool
 isColors t = on-identifier t (λ a. same (a .bytes) (ascii "colors")) false
+
+-- what a definition reads as: nothing, unless it is a colour
+abbrev pub definition : Name → Token → Reading
+definition n t = on-option (colorOf t) [] λ x. colorItem n x ∷ []
 
 module _ {C T P R : Type 0} (i : Input C T P R) where
   module _ {A : Type 0} where
@@ -219,9 +223,6 @@ module _ {C T P R : Type 0} (i : Input C T P R) where
       (after (readProperties k Γ e τ) λ ps f τ. keepRule (s .0 ∷ []) ps f τ)))
 
   -- ---- sheets: a colour is stored at its semicolon; a definition that is no colour has no effect
-
-  abbrev pub definition : Name → Token → Reading
-  definition n t = on-option (colorOf t) [] λ x. colorItem n x ∷ []
 
   abbrev pub keepColor : {A : Type 0} → Name → Token → C → T → (T → Answer A C T R) → Answer A C T R
   keepColor n t c τ k = on-option (colorOf t) (k τ) λ x. keep i (colorEntry n x) c τ k

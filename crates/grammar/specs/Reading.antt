@@ -1,6 +1,6 @@
 -- What a sheet reads as: rules and colour definitions in order, names with their places, no table and no capacity.
 use Prim.Native.Nat.{ℕ}
-use mathlib.Core.Bool.{Bool, true, false, cond}
+use mathlib.Core.Bool.{cond}
 use mathlib.Core.List.{List, [], _∷_, _++_}
 use mathlib.Core.Option.{Option, none, some}
 use lib.Ieee.{Float}

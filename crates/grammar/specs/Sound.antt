@@ -10,12 +10,12 @@ use Rattle.base.specs.Choice.{clash}
 use Rattle.base.proofs.Compare.{same-true}
 use Rattle.sheet.specs.Sheet.{ObjectType, TextTest, NumericTest, Color}
 use Rattle.grammar.specs.Token.{Name, joined, Sign, Token, import, identifier, string, colorRef, number, zoomRange, color, sign, leftParen, rightParen, leftBracket, rightBracket, leftBrace, rightBrace, equalSign, notEqualSign, lessSign, greaterSign, lessOrEqualSign, greaterOrEqualSign, bang, questionMark, colon, doubleColon, semiColon, comma}
-use Rattle.grammar.specs.View.{isSign, on-sign, on-identifier, on-color, colorOf}
+use Rattle.grammar.specs.View.{on-identifier, on-color, colorOf}
 use Rattle.grammar.specs.ViewLaws.{test-holds, sign-holds, identifier-holds, string-holds, number-holds}
-use Rattle.grammar.specs.Reading.{Test, unary, text, numeric, plain, digits, Value, word, quoted, colored, numbers, widthDelta, Selector, Property, property, Rule, ruleItem, colorItem, Reading, Colors, define, colorNamed, colorsAfter, bare, withZoom, withTest, withLayer, idToObjectType}
-use Rattle.grammar.specs.Input.{Entry, ruleEntry, selectorEntry, testEntry, propertyEntry, numberEntry, colorEntry, token, end, Input, Answer, refused, read, on-option, after, keep}
+use Rattle.grammar.specs.Reading.{Test, unary, text, numeric, plain, digits, Value, word, quoted, colored, numbers, widthDelta, Selector, Property, Rule, ruleItem, colorItem, Reading, Colors, define, colorNamed, colorsAfter, bare, withZoom, withTest, withLayer, idToObjectType}
+use Rattle.grammar.specs.Input.{Entry, ruleEntry, selectorEntry, propertyEntry, colorEntry, token, Input, Answer, read, on-option, keep}
 use Rattle.grammar.specs.Reader.{toBinaryStringTestType, toBinaryNumericTestType, want, wantWord, wantString, suffix, widthIncrement, isColors, readOperand, readNumber, plainTest, bangTest, readKey, readTest, readNumberList, tokensToSemiColon, readSimpleEval, readPropertyValue, readProperties, readParts, readSelector, skipColors, readRule, definition, keepColor, readColorDef, parse, importFile, load}
-use Rattle.grammar.specs.Grammar.{IsName, single, double, IsKey, named, quotedKey, quotedDouble, IsEquality, eq, ne, IsComparison, lt, le, gt, ge, IsOperand, plainOperand, digitsOperand, IsTest, there, trueTag, falseTag, missing, untrue, compared, measured, IsNumbers, lastNumber, moreNumbers, IsDelta, zeroDelta, someDelta, IsValue, oneWord, twoWords, aString, aColor, reference, list, eval, IsProperties, closed, assign, HasParts, nothing, zooms, tested, class, layer, IsSelector, typed, IsSkipped, stop, over, IsRule, body, auxiliary, lastSelector, selectorThen, IsSheet, finish, aRule, defined, dropped, imported}
+use Rattle.grammar.specs.Grammar.{IsName, single, double, IsKey, named, quotedKey, quotedDouble, IsEquality, eq, ne, IsComparison, lt, le, gt, ge, plainOperand, digitsOperand, IsTest, there, trueTag, falseTag, missing, untrue, compared, measured, IsNumbers, lastNumber, moreNumbers, IsDelta, zeroDelta, someDelta, IsValue, oneWord, twoWords, aString, aColor, reference, list, eval, IsProperties, closed, assign, HasParts, nothing, zooms, tested, class, layer, IsSelector, typed, IsSkipped, stop, over, IsRule, body, auxiliary, lastSelector, selectorThen, finish, aRule, defined, dropped, imported}
 use Rattle.grammar.specs.Entries.{testEntries, testsEntries, numbersEntries, valueEntries, propertiesEntries, selectorsEntries, ruleEntries, entriesOf, tint, tints}
 use Rattle.grammar.specs.Stream.{Gives, here, _▸_, WholeTo, TextOf, Sheet}
 use Rattle.grammar.specs.Laws.{Puts, kept, _◂_, join, both, found, Phrase, Sound, refused-sound, read-sound, next-sound, option-sound, test-sound, sign-sound, import-sound, identifier-sound, string-sound, colorRef-sound, number-sound, color-sound, zoom-sound, after-sound, token-sound, expect-sound, name-sound, keep-sound}
@@ -573,8 +573,8 @@ module _ {C T P R : Type 0} (i : Input C T P R) where
   -- what a definition puts in front of the rest
   definition-is :
       {d : ℕ} {Γ : Colors} {p : List Token} {js : Reading} (n : Name) (t : Token)
-      → Sheet i d (colorsAfter Γ (definition i n t)) p js
-      → Sheet i d Γ (colorRef n ∷ sign colon ∷ t ∷ sign semiColon ∷ p) (definition i n t ++ js)
+      → Sheet i d (colorsAfter Γ (definition n t)) p js
+      → Sheet i d Γ (colorRef n ∷ sign colon ∷ t ∷ sign semiColon ∷ p) (definition n t ++ js)
   unfolding colorOf on-color on-option colorsAfter
   definition-is n (color c) h = defined n c h
   definition-is n (import a) h = dropped n _ refl h
@@ -587,7 +587,7 @@ module _ {C T P R : Type 0} (i : Input C T P R) where
 
   color-kept :
       {A : Type 0} (S : A → C → T → Type 0) (n : Name) (t : Token) (c : C) (τ : T) {k : T → Answer A C T R}
-      → ((υ : T) → Puts i τ (entriesOf (definition i n t)) υ → Sound S (k υ))
+      → ((υ : T) → Puts i τ (entriesOf (definition n t)) υ → Sound S (k υ))
       → Sound S (keepColor i n t c τ k)
   unfolding on-option entriesOf
   color-kept S n t c τ {k} h = go (colorOf t) h
@@ -603,7 +603,7 @@ module _ {C T P R : Type 0} (i : Input C T P R) where
   abbrev Defines : Name → C → T → Reading → C → T → Type 0
   Defines n c τ js d υ =
       (t : Token) ×
-      ((js ≡ definition i n t) × (Gives i c (sign colon ∷ t ∷ sign semiColon ∷ []) d × Puts i τ (entriesOf js) υ))
+      ((js ≡ definition n t) × (Gives i c (sign colon ∷ t ∷ sign semiColon ∷ []) d × Puts i τ (entriesOf js) υ))
 
   pub color-reads : (n : Name) (c : C) (τ : T) → Sound (Defines n c τ) (readColorDef i n c τ)
   color-reads n c τ = expect-sound _ i colon c τ λ o v f. token-sound _ i v τ λ t o w g. expect-sound _ i semiColon w τ λ o z r.
@@ -611,7 +611,7 @@ module _ {C T P R : Type 0} (i : Input C T P R) where
 
   defines :
       {d : ℕ} {Γ : Colors} {p : List Token} (js : Reading) {ks : Reading} (n : Name) (t : Token)
-      → js ≡ definition i n t
+      → js ≡ definition n t
       → Sheet i d (colorsAfter Γ js) p ks
       → Sheet i d Γ (colorRef n ∷ sign colon ∷ t ∷ sign semiColon ∷ p) (js ++ ks)
   defines {d} {Γ} {p} js {ks} n t e h =

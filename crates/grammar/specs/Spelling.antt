@@ -1,9 +1,9 @@
 -- Token lists for examples, spelt as words parted by blanks.
 use Prim.Native.Nat.{ℕ, _-_}
 use Prim.Native.String.{String}
-use mathlib.Core.Bool.{Bool, true, false, cond}
-use mathlib.Core.List.{List, [], _∷_, _++_, map}
-use mathlib.Core.Option.{Option, none, some}
+use mathlib.Core.Bool.{cond}
+use mathlib.Core.List.{List, [], _∷_, map}
+use mathlib.Core.Option.{none, some}
 use lib.Dec.{eqb}
 use lib.Ieee.{Float, ofBits, binary64}
 use Rattle.base.specs.Bytes.{Bytes, ascii}

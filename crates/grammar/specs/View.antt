@@ -1,6 +1,5 @@
 -- Looking at a token: for each kind a choice by it.
 use Prim.Native.Nat.{ℕ}
-use mathlib.Core.Path.{_≡_}
 use mathlib.Core.Bool.{Bool, true, false, cond}
 use mathlib.Core.Option.{Option, none, some}
 use lib.Ieee.{Float}
