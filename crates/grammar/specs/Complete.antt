@@ -10,13 +10,13 @@ use lib.Ieee.{Float}
 use Rattle.base.specs.Bytes.{Bytes, ascii, same}
 use Rattle.base.specs.Choice.{by-test}
 use Rattle.base.proofs.Compare.{same-true, same-refl}
-use Rattle.sheet.specs.Sheet.{ObjectType}
-use Rattle.grammar.specs.Token.{Name, Sign, Token, identifier, number, sign, leftBrace, bang, colon, semiColon, comma}
+use Rattle.sheet.specs.Sheet.{ObjectType, TextTest, NumericTest}
+use Rattle.grammar.specs.Token.{Name, Sign, Token, identifier, number, sign, leftBrace, rightBracket, bang, colon, semiColon, comma}
 use Rattle.grammar.specs.View.{isSign, on-import, on-identifier, on-string, on-colorRef, on-number, on-zoomRange, on-color, colorOf}
-use Rattle.grammar.specs.Reading.{Test, Value, Selector, Property, Rule, ruleItem, Reading, Colors, define, colorsAfter, bare, idToObjectType}
+use Rattle.grammar.specs.Reading.{Operand, Test, text, numeric, Value, Selector, Property, Rule, ruleItem, Reading, Colors, define, colorsAfter, bare, idToObjectType}
 use Rattle.grammar.specs.Input.{Entry, ruleEntry, selectorEntry, colorEntry, token, end, Input, Answer, read, on-next, on-option, after}
 use Rattle.grammar.specs.Reader.{toBinaryStringTestType, toBinaryNumericTestType, widthIncrement, isColors, plainTest, bangTest, readTest, readNumberList, tokensToSemiColon, readSimpleEval, readPropertyValue, readProperties, readParts, readSelector, skipColors, readRule, before, parse, importFile, load}
-use Rattle.grammar.specs.Grammar.{IsName, single, double, IsKey, named, quotedKey, quotedDouble, eq, ne, lt, le, gt, ge, plainOperand, digitsOperand, IsTest, there, trueTag, falseTag, missing, untrue, compared, measured, IsNumbers, lastNumber, moreNumbers, IsDelta, zeroDelta, someDelta, IsValue, oneWord, twoWords, aString, aColor, reference, list, eval, IsProperties, closed, assign, HasParts, nothing, zooms, tested, class, layer, typed, IsSkipped, stop, over, IsRule, body, auxiliary, lastSelector, selectorThen, finish, aRule, defined, dropped, imported}
+use Rattle.grammar.specs.Grammar.{IsName, single, double, IsKey, named, quotedKey, quotedDouble, IsEquality, eq, ne, IsComparison, lt, le, gt, ge, IsOperand, plainOperand, digitsOperand, IsTest, there, trueTag, falseTag, missing, untrue, compared, measured, IsNumbers, lastNumber, moreNumbers, IsDelta, zeroDelta, someDelta, IsValue, oneWord, twoWords, aString, aColor, reference, list, eval, IsProperties, closed, assign, HasParts, nothing, zooms, tested, class, layer, typed, IsSkipped, stop, over, IsRule, body, auxiliary, lastSelector, selectorThen, finish, aRule, defined, dropped, imported}
 use Rattle.grammar.specs.Entries.{testEntries, testsEntries, numbersEntries, valueEntries, propertiesEntries, selectorsEntries, ruleEntries, entriesOf, tint}
 use Rattle.grammar.specs.Stream.{Gives, here, _▸_, WholeTo, Sheet, Fueled}
 use Rattle.grammar.specs.Laws.{Puts, kept, _◂_, uncons, split, unput, apart}
@@ -85,6 +85,78 @@ module _ {C T P R : Type 0} (i : Input C T P R) where
   bang-done τ (single a) (z ▸ e ▸ here) f n = rw (z, e, f, n)
   bang-done τ (double a b) (z ▸ e ▸ g ▸ h ▸ here) f n = rw (z, e, g, h, f)
 
+  equality-done :
+      {g : Sign} {op : TextTest}
+      → IsEquality g op
+      → (toBinaryStringTestType (sign g) ≡ some op) × (isSign colon (sign g) ≡ false)
+  unfolding toBinaryStringTestType isSign
+  equality-done eq = (refl, refl)
+  equality-done ne = (refl, refl)
+
+  comparison-done :
+      {g : Sign} {op : NumericTest}
+      → IsComparison g op
+      → (toBinaryStringTestType (sign g) ≡ none) × ((toBinaryNumericTestType (sign g) ≡ some op) × (isSign colon (sign g) ≡ false))
+  unfolding toBinaryStringTestType toBinaryNumericTestType isSign
+  comparison-done lt = (refl, (refl, refl))
+  comparison-done le = (refl, (refl, refl))
+  comparison-done gt = (refl, (refl, refl))
+  comparison-done ge = (refl, (refl, refl))
+
+  compared-done :
+      {p : List Token} {a : Name} {g : Sign} {op : TextTest} {t : Token} {x : Operand} {c d : C} {τ υ : T}
+      → IsKey p a
+      → IsEquality g op
+      → IsOperand (i .countable) t x
+      → Gives i c (p ++ (sign g ∷ t ∷ sign rightBracket ∷ [])) d
+      → Puts i τ (testEntries (text op a x)) υ
+      → readTest i c τ ≡ read (text op a x) d υ
+  unfolding plainTest on-next on-option on-identifier on-number isSign
+  compared-done {p = p} {τ = τ} y z (plainOperand b) g m =
+      let r = split i p g in
+      let c = uncons i (r .1 .1) in
+      let n = uncons i (c .1 .1 .1) in
+      let e = equality-done z in
+      rw (key-done τ y (r .1 .0) (c .1 .1 .0) (e .1), e .0, n .1 .1 .0, only (n .1 .1 .1) .1, sole m)
+  compared-done {p = p} {τ = τ} y z (digitsOperand x l) g m =
+      let r = split i p g in
+      let c = uncons i (r .1 .1) in
+      let n = uncons i (c .1 .1 .1) in
+      let e = equality-done z in
+      rw (
+        key-done τ y (r .1 .0) (c .1 .1 .0) (e .1),
+        e .0,
+        n .1 .1 .0,
+        only (n .1 .1 .1) .1,
+        l,
+        (unput i m) .1 .0,
+        sole ((unput i m) .1 .1),
+      )
+
+  measured-done :
+      {p : List Token} {a : Name} {g : Sign} {op : NumericTest} {c d : C} {τ υ : T}
+      → IsKey p a
+      → IsComparison g op
+      → (x : Float)
+      → Gives i c (p ++ (sign g ∷ number x ∷ sign rightBracket ∷ [])) d
+      → Puts i τ (testEntries (numeric op a x)) υ
+      → readTest i c τ ≡ read (numeric op a x) d υ
+  unfolding plainTest on-next on-option on-number isSign
+  measured-done {p = p} {τ = τ} y z x g m =
+      let r = split i p g in
+      let c = uncons i (r .1 .1) in
+      let n = uncons i (c .1 .1 .1) in
+      let e = comparison-done z in
+      rw (
+        key-done τ y (r .1 .0) (c .1 .1 .0) (e .1 .1),
+        e .0,
+        e .1 .0,
+        n .1 .1 .0,
+        only (n .1 .1 .1) .1,
+        (unput i m) .1 .0,
+        sole ((unput i m) .1 .1),
+      )
+
   test-done :
       {p : List Token} {x : Test} {c d : C} {τ υ : T}
       → IsTest (i .countable) p x
@@ -111,46 +183,8 @@ module _ {C T P R : Type 0} (i : Input C T P R) where
       let r = split i (sign bang ∷ p) g in
       let c = uncons i (r .1 .1) in
       rw (bang-done τ y (r .1 .0) (c .1 .1 .0) refl, only (c .1 .1 .1) .1, sole m)
-  test-done {τ} (compared {p = p} y eq (plainOperand z)) g m =
-      let r = split i p g in
-      let c = uncons i (r .1 .1) in
-      let b = uncons i (c .1 .1 .1) in
-      rw (key-done τ y (r .1 .0) (c .1 .1 .0) refl, b .1 .1 .0, only (b .1 .1 .1) .1, sole m)
-  test-done {τ} (compared {p = p} y ne (plainOperand z)) g m =
-      let r = split i p g in
-      let c = uncons i (r .1 .1) in
-      let b = uncons i (c .1 .1 .1) in
-      rw (key-done τ y (r .1 .0) (c .1 .1 .0) refl, b .1 .1 .0, only (b .1 .1 .1) .1, sole m)
-  test-done {τ} (compared {p = p} y eq (digitsOperand x n)) g m =
-      let r = split i p g in
-      let c = uncons i (r .1 .1) in
-      let b = uncons i (c .1 .1 .1) in
-      rw (key-done τ y (r .1 .0) (c .1 .1 .0) refl, b .1 .1 .0, only (b .1 .1 .1) .1, n, (unput i m) .1 .0, sole ((unput i m) .1 .1))
-  test-done {τ} (compared {p = p} y ne (digitsOperand x n)) g m =
-      let r = split i p g in
-      let c = uncons i (r .1 .1) in
-      let b = uncons i (c .1 .1 .1) in
-      rw (key-done τ y (r .1 .0) (c .1 .1 .0) refl, b .1 .1 .0, only (b .1 .1 .1) .1, n, (unput i m) .1 .0, sole ((unput i m) .1 .1))
-  test-done {τ} (measured {p = p} y lt x) g m =
-      let r = split i p g in
-      let c = uncons i (r .1 .1) in
-      let b = uncons i (c .1 .1 .1) in
-      rw (key-done τ y (r .1 .0) (c .1 .1 .0) refl, b .1 .1 .0, only (b .1 .1 .1) .1, (unput i m) .1 .0, sole ((unput i m) .1 .1))
-  test-done {τ} (measured {p = p} y le x) g m =
-      let r = split i p g in
-      let c = uncons i (r .1 .1) in
-      let b = uncons i (c .1 .1 .1) in
-      rw (key-done τ y (r .1 .0) (c .1 .1 .0) refl, b .1 .1 .0, only (b .1 .1 .1) .1, (unput i m) .1 .0, sole ((unput i m) .1 .1))
-  test-done {τ} (measured {p = p} y gt x) g m =
-      let r = split i p g in
-      let c = uncons i (r .1 .1) in
-      let b = uncons i (c .1 .1 .1) in
-      rw (key-done τ y (r .1 .0) (c .1 .1 .0) refl, b .1 .1 .0, only (b .1 .1 .1) .1, (unput i m) .1 .0, sole ((unput i m) .1 .1))
-  test-done {τ} (measured {p = p} y ge x) g m =
-      let r = split i p g in
-      let c = uncons i (r .1 .1) in
-      let b = uncons i (c .1 .1 .1) in
-      rw (key-done τ y (r .1 .0) (c .1 .1 .0) refl, b .1 .1 .0, only (b .1 .1 .1) .1, (unput i m) .1 .0, sole ((unput i m) .1 .1))
+  test-done (compared y z o) g m = compared-done y z o g m
+  test-done (measured y z x) g m = measured-done y z x g m
 
   -- ---- properties
 
@@ -365,7 +399,8 @@ module _ {C T P R : Type 0} (i : Input C T P R) where
       {t : Token} {o : P} {c v : C} (imp : Name → C → T → Answer Reading C T R) (k : ℕ) (τ : T)
       → Start t
       → i .next c ≡ token t o v
-      → parse i imp (suc k) c τ ≡ after (readRule i (suc k) (i .store .colors τ) τ t o v) (λ r e τ. before i (ruleItem r ∷ []) (parse i imp k e τ))
+      → parse i imp (suc k) c τ ≡ after (readRule i (suc k) (i .store .colors τ) τ t o v)
+      (λ r e τ. before i (ruleItem r ∷ []) (parse i imp k e τ))
   unfolding parse on-next on-import on-colorRef
   rule-first imp k τ brace e = rw e
   rule-first imp k τ (type a) e = rw e
