@@ -10,6 +10,7 @@ pub mod Stream
 pub mod Entries
 pub mod Capacity
 pub mod Counts
+pub mod Spelled
 pub mod Alike
 pub mod Accepted
 pub mod Laws
@@ -17,6 +18,7 @@ pub mod Sound
 pub mod Complete
 pub mod CapacityLaws
 pub mod CountsLaws
+pub mod SpelledProof
 pub mod AlikeProof
 pub mod AcceptedProof
 pub mod Texts
