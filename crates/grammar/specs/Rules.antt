@@ -8,7 +8,7 @@ use Rattle.sheet.specs.Sheet.{identifier, string, color, Test as Test′, unary
 use Rattle.grammar.specs.Token.{Name}
 use Rattle.grammar.specs.Reading.{Operand, plain, digits, Test, unary, text, numeric, Value, word, quoted, colored, numbers, widthDelta, Selector, Property, Rule, Reading, rulesOf}
 
--- digitsOf: the decimal digits of a whole number, as document 01 has them
+-- digitsOf: the decimal digits of a whole number (sheet/specs/Digits.antt)
 module _ (digitsOf : Float → Bytes) where
   abbrev pub operandBytes : Operand → Bytes
   operandBytes (plain a) = a .bytes
