@@ -229,8 +229,10 @@ module _ {C T P R : Type 0} (i : Input C T P R) where
 
   abbrev pub readColorDef : Name → C → T → Answer Reading C T R
   readColorDef n c τ =
-      expectSimpleToken colon c τ λ d. readMandatoryToken d τ λ t o e. expectSimpleToken semiColon e τ λ f. keepColor n
-      t f τ λ τ. read (definition n t) f τ
+      expectSimpleToken colon c τ λ d.
+      readMandatoryToken d τ λ t o e.
+      expectSimpleToken semiColon e τ λ f.
+      keepColor n t f τ λ τ. read (definition n t) f τ
 
   abbrev pub before : Reading → Answer Reading C T R → Answer Reading C T R
   before js a = after a λ ks c τ. read (js ++ ks) c τ
