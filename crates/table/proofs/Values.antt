@@ -1,6 +1,5 @@
 -- Words of an entry as the code reads them, and the value that they stand for.
 use Prim.Native.Nat.{ℕ, _+_, _*_, _%_, _≤_}
-use native.Mathlib.Omega.{arith}
 use mathlib.Core.Path.{_≡_, refl, sym, _∙_, ap, ap₂}
 use mathlib.Core.List.{List}
 use lib.Ieee.{Float}
@@ -15,8 +14,8 @@ use Rattle.table.specs.declared.Name.the-variants.{Plain, Joined}
 use Rattle.table.specs.declared.PropertyValue.{PropertyValue}
 use Rattle.table.specs.declared.PropertyValue.the-variants.{NoValue, Identifier, Text, Shade, Numbers, WidthDelta}
 
-pub word-past : (t : List ℕ) (i j : ℕ) → length t ≤ i → 0 ≡ wordAt t i j
-word-past t i j h = sym (List·getD-eq-default t 0 (omega arith))
+pub word-past : (t : List ℕ) (i j : ℕ) → length t ≤ i * 8 + j → 0 ≡ wordAt t i j
+word-past t i j h = sym (List·getD-eq-default t 0 h)
 
 pub range-is : (t : List ℕ) (i j a b : ℕ) → a ≡ wordAt t i j → b ≡ wordAt t i (j + 1) → record { from = a; to = b } ≡ rangeAt t i j
 range-is t i j a b p q = ap₂ (λ (x y : ℕ). record { from = x; to = y }) p q

@@ -328,11 +328,13 @@ fn range_of(t: &[u32], i: usize, j: usize) -> Range
 }
 
 // Word j of entry i, and 0 past the end.
-fn word_of(t: &[u32], i: usize, j: usize) -> usize
-    requires { ⌜ j < 8 ⌝ }
+pub fn word_of(t: &[u32], i: usize, j: usize) -> usize
     ensures { λ r. ⌜ r ≡ wordAt (now (t .entry)) i j ⌝ }
 {
-    if t.len() <= i {
+    if t.len() / 8 < i {
+        return 0;
+    }
+    if t.len() <= j {
         return 0;
     }
     wide(base::word_at(t, i * 8 + j))

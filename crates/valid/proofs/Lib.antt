@@ -1,3 +1,2 @@
-pub mod Held
 pub mod Below
 pub mod Tests

@@ -1,5 +1,5 @@
 -- What sound tables give their readers, entry by entry; and that an entry of zeros is never sound.
-use Prim.Native.Nat.{ℕ, zero, suc, _≤_, _<_}
+use Prim.Native.Nat.{ℕ, zero, suc, _<_}
 use native.Mathlib.Omega.{arith}
 use mathlib.Core.Path.{_≡_, refl, sym, _∙_, ap}
 use mathlib.Core.Bool.{Bool, true, false, not}
@@ -7,9 +7,9 @@ use mathlib.Core.List.{List}
 use lib.Dec.{eqb, leb}
 use lib.Ieee.{Float}
 use borrow.Author.Tests.{eqb-true, eqb-false}
-use Rattle.base.specs.Choice.{pick, by-test, if-true, if-false, clash}
+use Rattle.base.specs.Choice.{by-test, if-true, if-false, clash}
 use Rattle.table.specs.Value.{wordAt}
-use Rattle.valid.specs.Valid.{allBelow, spanIn, ruleSound, selectorSound, testSound, propertySound}
+use Rattle.valid.specs.Valid.{allBelow, spanIn, namedEntry, ruleSound, selectorSound, testSound, propertySound}
 
 -- where all below a count pass, each does
 pub each-below : (p : ℕ → Bool) → (n i : ℕ) → i < n → allBelow p n ≡ true → p i ≡ true
@@ -27,6 +27,10 @@ pub no-kind : (w n : ℕ) → w ≡ 0 → spanIn 1 w n ≡ false
 unfolding spanIn
 no-kind w n e = sym (if-false _ _ _ (ap (λ (k : ℕ). leb 1 k) e) refl)
 
+pub no-name : (t : List ℕ) (most bundle i : ℕ) → wordAt t i 0 ≡ 0 → namedEntry t most bundle i ≡ false
+unfolding namedEntry
+no-name t most bundle i e = sym (if-false _ _ _ (no-kind _ most e) refl)
+
 pub zero-rule : (t : List ℕ) (s p i : ℕ) → wordAt t i 0 ≡ 0 → ruleSound t s p i ≡ false
 unfolding ruleSound
 zero-rule t s p i e = sym (if-true _ _ _ (ap (λ (k : ℕ). not (eqb k 1)) e) refl)
@@ -37,8 +41,8 @@ zero-selector t tests bundle i e = sym (if-false _ _ _ (no-kind _ 6 e) refl)
 
 pub zero-test : (t : List ℕ) (xs : List Float) (numbers bundle i : ℕ) → wordAt t i 0 ≡ 0 → testSound t xs numbers bundle i ≡ false
 unfolding testSound
-zero-test t xs numbers bundle i e = sym (if-false _ _ _ (no-kind _ 12 e) refl)
+zero-test t xs numbers bundle i e = sym (if-false _ _ _ (no-name t 12 bundle i e) refl)
 
 pub zero-property : (t : List ℕ) (numbers bundle i : ℕ) → wordAt t i 0 ≡ 0 → propertySound t numbers bundle i ≡ false
 unfolding propertySound
-zero-property t numbers bundle i e = sym (if-false _ _ _ (no-kind _ 6 e) refl)
+zero-property t numbers bundle i e = sym (if-false _ _ _ (no-name t 6 bundle i e) refl)

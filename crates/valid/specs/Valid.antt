@@ -3,7 +3,7 @@
 use Prim.Native.Nat.{ℕ, zero, suc, _+_}
 use mathlib.Core.Bool.{Bool, true, false, not}
 use mathlib.Core.List.{List}
-use lib.Dec.{eqb, leb, ltb}
+use lib.Dec.{eqb, leb}
 use lib.Ieee.{Float}
 use lib.ListN.{length, getD}
 use Rattle.base.specs.Choice.{pick}
@@ -37,6 +37,10 @@ selectorSound t tests bundle i =
     pick (spanIn 1 (wordAt t i 0) 6)
     (pick (spanIn (wordAt t i 3) (wordAt t i 4) tests) (markedSpan t i 5 bundle) false) false
 
+-- the head of a test and of a property: one of so many kinds, and the range of a key or name
+unfoldable pub namedEntry : List ℕ → ℕ → ℕ → ℕ → Bool
+namedEntry t most bundle i = pick (spanIn 1 (wordAt t i 0) most) (spanIn (wordAt t i 1) (wordAt t i 2) bundle) false
+
 unfoldable pub twoZeros : List ℕ → ℕ → ℕ → Bool
 twoZeros t i j = pick (eqb (wordAt t i j) 0) (eqb (wordAt t i (j + 1)) 0) false
 
@@ -55,9 +59,7 @@ testValue t xs numbers bundle i =
 -- test i, where there are so many numbers, and bytes in the bundle
 unfoldable pub testSound : List ℕ → List Float → ℕ → ℕ → ℕ → Bool
 testSound t xs numbers bundle i =
-    pick (spanIn 1 (wordAt t i 0) 12)
-    (pick (spanIn (wordAt t i 1) (wordAt t i 2) bundle)
-    (pick (markedSpan t i 3 bundle) (testValue t xs numbers bundle i) false) false) false
+    pick (namedEntry t 12 bundle i) (pick (markedSpan t i 3 bundle) (testValue t xs numbers bundle i) false) false
 
 unfoldable pub oneSpan : List ℕ → ℕ → ℕ → Bool
 oneSpan t n i = pick (spanIn (wordAt t i 3) (wordAt t i 4) n) (twoZeros t i 5) false
@@ -84,9 +86,7 @@ valueSound t numbers bundle i =
 -- property i, where there are so many numbers, and bytes in the bundle
 unfoldable pub propertySound : List ℕ → ℕ → ℕ → ℕ → Bool
 propertySound t numbers bundle i =
-    pick (spanIn 1 (wordAt t i 0) 6)
-    (pick (spanIn (wordAt t i 1) (wordAt t i 2) bundle)
-    (pick (eqb (wordAt t i 7) 0) (valueSound t numbers bundle i) false) false) false
+    pick (namedEntry t 6 bundle i) (pick (eqb (wordAt t i 7) 0) (valueSound t numbers bundle i) false) false
 
 -- every place below a count
 unfoldable pub allBelow : (ℕ → Bool) → ℕ → Bool

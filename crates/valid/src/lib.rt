@@ -4,7 +4,7 @@ ghost use lib.Dec.{eqb, leb};
 ghost use Prim.Native.Nat.{_≤_, _<_, _+_};
 ghost use lib.ListN.{length};
 ghost use Rattle.table.specs.Value.{wordAt};
-ghost use Rattle.valid.specs.Valid.{spanIn, twoZeros, markedSpan, ruleSound, selectorSound, testSound, testValue, numberValue, propertySound, valueSound, oneSpan, twoSpans, colorWords, deltaWords, allBelow, entriesHeld, countsHeld, entriesSound, tablesSound};
+ghost use Rattle.valid.specs.Valid.{spanIn, twoZeros, markedSpan, ruleSound, selectorSound, namedEntry, testSound, testValue, numberValue, propertySound, valueSound, oneSpan, twoSpans, colorWords, deltaWords, allBelow, entriesHeld, countsHeld, entriesSound, tablesSound};
 ghost use Rattle.base.specs.Table.{capacityOf};
 
 // How many entries each table holds. No styling reads the table of colours.
@@ -81,7 +81,6 @@ fn entries_sound(
     n: Counts,
     bundle: usize,
 ) -> bool
-    requires { ⌜ (n .rules ≤ 16384) × (n .selectors ≤ 16384) × (n .tests ≤ 16384) × (n .properties ≤ 16384) ⌝ }
     ensures { λ r. ⌜ r ≡ entriesSound (now (rules .entry)) (now (selectors .entry)) (now (tests .entry)) (now (properties .entry)) (now (numbers .entry)) n bundle ⌝ }
 {
     if !rules_sound(rules, n.rules, n.selectors, n.properties) {
@@ -97,7 +96,6 @@ fn entries_sound(
 }
 
 fn rules_sound(t: &[u32], n: usize, selectors: usize, properties: usize) -> bool
-    requires { ⌜ n ≤ 16384 ⌝ }
     ensures { λ r. ⌜ r ≡ allBelow (ruleSound (now (t .entry)) selectors properties) n ⌝ }
 {
     let mut left = n;
@@ -111,7 +109,6 @@ fn rules_sound(t: &[u32], n: usize, selectors: usize, properties: usize) -> bool
 }
 
 fn selectors_sound(t: &[u32], n: usize, tests: usize, bundle: usize) -> bool
-    requires { ⌜ n ≤ 16384 ⌝ }
     ensures { λ r. ⌜ r ≡ allBelow (selectorSound (now (t .entry)) tests bundle) n ⌝ }
 {
     let mut left = n;
@@ -125,7 +122,6 @@ fn selectors_sound(t: &[u32], n: usize, tests: usize, bundle: usize) -> bool
 }
 
 fn tests_sound(t: &[u32], xs: &[f64], n: usize, numbers: usize, bundle: usize) -> bool
-    requires { ⌜ n ≤ 16384 ⌝ }
     ensures { λ r. ⌜ r ≡ allBelow (testSound (now (t .entry)) (now (xs .entry)) numbers bundle) n ⌝ }
 {
     let mut left = n;
@@ -139,7 +135,6 @@ fn tests_sound(t: &[u32], xs: &[f64], n: usize, numbers: usize, bundle: usize) -
 }
 
 fn properties_sound(t: &[u32], n: usize, numbers: usize, bundle: usize) -> bool
-    requires { ⌜ n ≤ 16384 ⌝ }
     ensures { λ r. ⌜ r ≡ allBelow (propertySound (now (t .entry)) numbers bundle) n ⌝ }
 {
     let mut left = n;
@@ -150,20 +145,6 @@ fn properties_sound(t: &[u32], n: usize, numbers: usize, bundle: usize) -> bool
         left -= 1;
     }
     true
-}
-
-// Word j of entry i.
-fn at(t: &[u32], i: usize, j: usize) -> usize
-    requires { ⌜ (i < 16384) × (j < 8) ⌝ }
-    ensures { λ r. ⌜ r ≡ wordAt (now (t .entry)) i j ⌝ }
-{
-    wide(base::word_at(t, i * 8 + j))
-}
-
-fn wide(w: u32) -> usize
-    ensures { λ r. ⌜ r ≡ w ⌝ }
-{
-    w as usize
 }
 
 // Whether a range is in order and within so many.
@@ -178,33 +159,31 @@ fn span_in(from: usize, to: usize, n: usize) -> bool
 
 // The range at words j and j + 1 of entry i.
 fn span_at(t: &[u32], i: usize, j: usize, n: usize) -> bool
-    requires { ⌜ (i < 16384) × (j < 7) ⌝ }
+    requires { ⌜ j < 7 ⌝ }
     ensures { λ r. ⌜ r ≡ spanIn (wordAt (now (t .entry)) i j) (wordAt (now (t .entry)) i (j + 1)) n ⌝ }
 {
-    span_in(at(t, i, j), at(t, i, j + 1), n)
+    span_in(table::word_of(t, i, j), table::word_of(t, i, j + 1), n)
 }
 
 // A kind from 1 up to the last one known.
 fn kind_at(t: &[u32], i: usize, most: usize) -> bool
-    requires { ⌜ i < 16384 ⌝ }
     ensures { λ r. ⌜ r ≡ spanIn 1 (wordAt (now (t .entry)) i 0) most ⌝ }
 {
-    span_in(1, at(t, i, 0), most)
+    span_in(1, table::word_of(t, i, 0), most)
 }
 
 fn zero_at(t: &[u32], i: usize, j: usize) -> bool
-    requires { ⌜ (i < 16384) × (j < 8) ⌝ }
     ensures { λ r. ⌜ r ≡ eqb (wordAt (now (t .entry)) i j) 0 ⌝ }
 {
-    at(t, i, j) == 0
+    table::word_of(t, i, j) == 0
 }
 
 // A mark at word j, 0 or 1, and behind it a range if it is 1, else zeros.
 fn marked_span(t: &[u32], i: usize, j: usize, n: usize) -> bool
-    requires { ⌜ (i < 16384) × (j < 6) ⌝ }
+    requires { ⌜ j < 6 ⌝ }
     ensures { λ r. ⌜ r ≡ markedSpan (now (t .entry)) i j n ⌝ }
 {
-    let mark = at(t, i, j);
+    let mark = table::word_of(t, i, j);
     if mark == 1 {
         return span_at(t, i, j + 1, n);
     }
@@ -218,10 +197,9 @@ fn marked_span(t: &[u32], i: usize, j: usize, n: usize) -> bool
 }
 
 fn rule_sound(t: &[u32], i: usize, selectors: usize, properties: usize) -> bool
-    requires { ⌜ i < 16384 ⌝ }
     ensures { λ r. ⌜ r ≡ ruleSound (now (t .entry)) selectors properties i ⌝ }
 {
-    if at(t, i, 0) != 1 {
+    if table::word_of(t, i, 0) != 1 {
         return false;
     }
     if !span_at(t, i, 1, selectors) {
@@ -240,7 +218,6 @@ fn rule_sound(t: &[u32], i: usize, selectors: usize, properties: usize) -> bool
 }
 
 fn selector_sound(t: &[u32], i: usize, tests: usize, bundle: usize) -> bool
-    requires { ⌜ i < 16384 ⌝ }
     ensures { λ r. ⌜ r ≡ selectorSound (now (t .entry)) tests bundle i ⌝ }
 {
     if !kind_at(t, i, 6) {
@@ -253,7 +230,7 @@ fn selector_sound(t: &[u32], i: usize, tests: usize, bundle: usize) -> bool
 }
 
 fn two_zeros(t: &[u32], i: usize, j: usize) -> bool
-    requires { ⌜ (i < 16384) × (j < 7) ⌝ }
+    requires { ⌜ j < 7 ⌝ }
     ensures { λ r. ⌜ r ≡ twoZeros (now (t .entry)) i j ⌝ }
 {
     if !zero_at(t, i, j) {
@@ -262,14 +239,20 @@ fn two_zeros(t: &[u32], i: usize, j: usize) -> bool
     zero_at(t, i, j + 1)
 }
 
-fn test_sound(t: &[u32], xs: &[f64], i: usize, numbers: usize, bundle: usize) -> bool
-    requires { ⌜ i < 16384 ⌝ }
-    ensures { λ r. ⌜ r ≡ testSound (now (t .entry)) (now (xs .entry)) numbers bundle i ⌝ }
+// A kind, and behind it the name of a test or a property.
+fn named(t: &[u32], i: usize, most: usize, bundle: usize) -> bool
+    ensures { λ r. ⌜ r ≡ namedEntry (now (t .entry)) most bundle i ⌝ }
 {
-    if !kind_at(t, i, 12) {
+    if !kind_at(t, i, most) {
         return false;
     }
-    if !span_at(t, i, 1, bundle) {
+    span_at(t, i, 1, bundle)
+}
+
+fn test_sound(t: &[u32], xs: &[f64], i: usize, numbers: usize, bundle: usize) -> bool
+    ensures { λ r. ⌜ r ≡ testSound (now (t .entry)) (now (xs .entry)) numbers bundle i ⌝ }
+{
+    if !named(t, i, 12, bundle) {
         return false;
     }
     if !marked_span(t, i, 3, bundle) {
@@ -280,10 +263,9 @@ fn test_sound(t: &[u32], xs: &[f64], i: usize, numbers: usize, bundle: usize) ->
 
 // The value of a test by its kind: none, a range of the bundle, or a number.
 fn test_value(t: &[u32], xs: &[f64], i: usize, numbers: usize, bundle: usize) -> bool
-    requires { ⌜ i < 16384 ⌝ }
     ensures { λ r. ⌜ r ≡ testValue (now (t .entry)) (now (xs .entry)) numbers bundle i ⌝ }
 {
-    let kind = at(t, i, 0);
+    let kind = table::word_of(t, i, 0);
     if kind <= 4 {
         return two_zeros(t, i, 6);
     }
@@ -295,10 +277,9 @@ fn test_value(t: &[u32], xs: &[f64], i: usize, numbers: usize, bundle: usize) ->
 
 // The place of a number; a whole one for the kinds 7 and 8.
 fn number_value(t: &[u32], xs: &[f64], i: usize, kind: usize, numbers: usize) -> bool
-    requires { ⌜ i < 16384 ⌝ }
     ensures { λ r. ⌜ r ≡ numberValue (now (t .entry)) (now (xs .entry)) kind numbers i ⌝ }
 {
-    let place = at(t, i, 6);
+    let place = table::word_of(t, i, 6);
     if numbers <= place {
         return false;
     }
@@ -312,13 +293,9 @@ fn number_value(t: &[u32], xs: &[f64], i: usize, kind: usize, numbers: usize) ->
 }
 
 fn property_sound(t: &[u32], i: usize, numbers: usize, bundle: usize) -> bool
-    requires { ⌜ i < 16384 ⌝ }
     ensures { λ r. ⌜ r ≡ propertySound (now (t .entry)) numbers bundle i ⌝ }
 {
-    if !kind_at(t, i, 6) {
-        return false;
-    }
-    if !span_at(t, i, 1, bundle) {
+    if !named(t, i, 6, bundle) {
         return false;
     }
     if !zero_at(t, i, 7) {
@@ -329,10 +306,9 @@ fn property_sound(t: &[u32], i: usize, numbers: usize, bundle: usize) -> bool
 
 // The value of a property by its kind.
 fn value_sound(t: &[u32], i: usize, numbers: usize, bundle: usize) -> bool
-    requires { ⌜ i < 16384 ⌝ }
     ensures { λ r. ⌜ r ≡ valueSound (now (t .entry)) numbers bundle i ⌝ }
 {
-    let kind = at(t, i, 0);
+    let kind = table::word_of(t, i, 0);
     if kind == 2 {
         return two_spans(t, i, bundle);
     }
@@ -349,7 +325,6 @@ fn value_sound(t: &[u32], i: usize, numbers: usize, bundle: usize) -> bool
 }
 
 fn one_span(t: &[u32], i: usize, n: usize) -> bool
-    requires { ⌜ i < 16384 ⌝ }
     ensures { λ r. ⌜ r ≡ oneSpan (now (t .entry)) n i ⌝ }
 {
     if !span_at(t, i, 3, n) {
@@ -359,7 +334,6 @@ fn one_span(t: &[u32], i: usize, n: usize) -> bool
 }
 
 fn two_spans(t: &[u32], i: usize, n: usize) -> bool
-    requires { ⌜ i < 16384 ⌝ }
     ensures { λ r. ⌜ r ≡ twoSpans (now (t .entry)) n i ⌝ }
 {
     if !span_at(t, i, 3, n) {
@@ -369,14 +343,12 @@ fn two_spans(t: &[u32], i: usize, n: usize) -> bool
 }
 
 fn byte_word(t: &[u32], i: usize, j: usize) -> bool
-    requires { ⌜ (i < 16384) × (j < 8) ⌝ }
     ensures { λ r. ⌜ r ≡ leb (wordAt (now (t .entry)) i j) 255 ⌝ }
 {
-    at(t, i, j) <= 255
+    table::word_of(t, i, j) <= 255
 }
 
 fn color_words(t: &[u32], i: usize) -> bool
-    requires { ⌜ i < 16384 ⌝ }
     ensures { λ r. ⌜ r ≡ colorWords (now (t .entry)) i ⌝ }
 {
     if !byte_word(t, i, 3) {
@@ -392,10 +364,9 @@ fn color_words(t: &[u32], i: usize) -> bool
 }
 
 fn delta_words(t: &[u32], i: usize, numbers: usize) -> bool
-    requires { ⌜ i < 16384 ⌝ }
     ensures { λ r. ⌜ r ≡ deltaWords (now (t .entry)) numbers i ⌝ }
 {
-    if numbers <= at(t, i, 3) {
+    if numbers <= table::word_of(t, i, 3) {
         return false;
     }
     if !zero_at(t, i, 4) {

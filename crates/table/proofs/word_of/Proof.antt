@@ -1,11 +1,19 @@
 -- `table::word_of` meets its contract.
+use native.Mathlib.Omega.{arith}
 use borrow.Author.Needs.{needs}
 use Rattle.table.proofs.Values.{word-past}
 use Rattle.table.proofs.word_of.Statement.{statement}
 use Rattle.table.proofs.word_of.Tie as tie
 
 returns : tie.Need-returns
-returns c = word-past (c .before .before .args .t .now) (c .before .before .args .i) (c .before .before .args .j) (c .if1 .taken)
+returns c =
+    word-past (c .before .before .args .t .now) (c .before .before .args .i) (c .before .before .args .j)
+    (omega (arith, c .if1 .taken))
+
+returns-2 : tie.Need-returns-2
+returns-2 c =
+    word-past (c .before .before .before .args .t .now) (c .before .before .before .args .i)
+    (c .before .before .before .args .j) (omega (arith, c .if2 .taken))
 
 mul-word-at : tie.Need-mul-word-at
 mul-word-at c = search needs
@@ -19,9 +27,10 @@ word-at-requires c κs = search needs
 wide-requires : tie.Need-wide-requires
 wide-requires c κs = search needs
 
-returns-2 : tie.Need-returns-2
-returns-2 c = search needs
+returns-3 : tie.Need-returns-3
+returns-3 c = search needs
 
 pub word-of-spec : {M : Type 1} → statement M
 word-of-spec =
-    tie.close (tie.spec returns mul-word-at add-word-at word-at-requires wide-requires returns-2)
+    tie.close
+    (tie.spec returns returns-2 mul-word-at add-word-at word-at-requires wide-requires returns-3)

@@ -3,7 +3,6 @@ use mathlib.Core.Path.{refl}
 use borrow.Author.Needs.{needs}
 use borrow.Author.Tests.{not-true, not-false}
 use Rattle.base.specs.Choice.{via, if-true, if-false}
-use Rattle.valid.proofs.Held.{counts-most}
 use Rattle.valid.proofs.is_sound.Statement.{statement}
 use Rattle.valid.specs.Valid.{tablesSound}
 use Rattle.valid.proofs.is_sound.Tie as tie
@@ -16,7 +15,7 @@ unfolding tablesSound
 returns c = if-false _ _ _ (via (c .before .counts-held .ensures) (not-true _ (c .if1 .taken))) refl
 
 entries-sound-requires : tie.Need-entries-sound-requires
-entries-sound-requires c κs = counts-most _ _ _ _ _ _ (via (c .before .counts-held .ensures) (not-false _ (c .if1 .left)))
+entries-sound-requires c κs = search needs
 
 returns-2 : tie.Need-returns-2
 unfolding tablesSound

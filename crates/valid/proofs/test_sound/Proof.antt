@@ -7,62 +7,36 @@ use Rattle.valid.proofs.test_sound.Statement.{statement}
 use Rattle.valid.specs.Valid.{testSound}
 use Rattle.valid.proofs.test_sound.Tie as tie
 
-kind-at-requires : tie.Need-kind-at-requires
-kind-at-requires c κs = search needs
+named-requires : tie.Need-named-requires
+named-requires c κs = search needs
 
 returns : tie.Need-returns
 unfolding testSound
-returns c = if-false _ _ _ (via (c .before .kind-at .ensures) (not-true _ (c .if1 .taken))) refl
+returns c = if-false _ _ _ (via (c .before .named .ensures) (not-true _ (c .if1 .taken))) refl
 
-span-at-requires : tie.Need-span-at-requires
-span-at-requires c κs = search needs
+marked-span-requires : tie.Need-marked-span-requires
+marked-span-requires c κs = search needs
 
 returns-2 : tie.Need-returns-2
 unfolding testSound
 returns-2 c =
     if-true _ _ _
-    (via (c .before .before .before .kind-at .ensures) (not-false _ (c .before .before .if1 .left)))
-    (if-false _ _ _ (via (c .before .span-at .ensures) (not-true _ (c .if2 .taken))) refl)
+    (via (c .before .before .before .named .ensures) (not-false _ (c .before .before .if1 .left)))
+    (if-false _ _ _ (via (c .before .marked-span .ensures) (not-true _ (c .if2 .taken))) refl)
 
-marked-span-requires : tie.Need-marked-span-requires
-marked-span-requires c κs = search needs
+test-value-requires : tie.Need-test-value-requires
+test-value-requires c κs = search needs
 
 returns-3 : tie.Need-returns-3
 unfolding testSound
 returns-3 c =
     if-true _ _ _
-    (via
-    (c .before .before .before .before .before .kind-at .ensures)
-    (not-false _ (c .before .before .before .before .if1 .left)))
+    (via (c .before .before .before .before .named .ensures) (not-false _ (c .before .before .before .if1 .left)))
     (if-true _ _ _
-    (via (c .before .before .before .span-at .ensures) (not-false _ (c .before .before .if2 .left)))
-    (if-false _ _ _ (via (c .before .marked-span .ensures) (not-true _ (c .if3 .taken))) refl))
-
-test-value-requires : tie.Need-test-value-requires
-test-value-requires c κs = search needs
-
-returns-4 : tie.Need-returns-4
-unfolding testSound
-returns-4 c =
-    if-true _ _ _
-    (via
-    (c .before .before .before .before .before .before .kind-at .ensures)
-    (not-false _ (c .before .before .before .before .before .if1 .left)))
-    (if-true _ _ _
-    (via (c .before .before .before .before .span-at .ensures) (not-false _ (c .before .before .before .if2 .left)))
-    (if-true _ _ _
-    (via (c .before .before .marked-span .ensures) (not-false _ (c .before .if3 .left)))
-    (c .test-value .ensures)))
+    (via (c .before .before .marked-span .ensures) (not-false _ (c .before .if2 .left)))
+    (c .test-value .ensures))
 
 pub test-sound-spec : {M : Type 1} → statement M
 test-sound-spec =
     tie.close
-    (tie.spec
-    kind-at-requires
-    returns
-    span-at-requires
-    returns-2
-    marked-span-requires
-    returns-3
-    test-value-requires
-    returns-4)
+    (tie.spec named-requires returns marked-span-requires returns-2 test-value-requires returns-3)
