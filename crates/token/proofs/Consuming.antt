@@ -548,6 +548,7 @@ record Taken (s : Bytes) (c : Cursor) (t : Token) (line character : ℕ) (d : Cu
   pub at : ℕ
   pub ch : ℕ
   pub first : Cursor
+  pub found : nextSignificantChar s c ≡ Found at ch first
   pub begun : Begun s c at ch first
   pub on-line : line ≡ first .line
   pub on-character : character ≡ first .character
@@ -589,6 +590,7 @@ steps s c =
       at = at;
       ch = k;
       first = d;
+      found = q;
       begun = b;
       on-line = refl;
       on-character = refl;
@@ -605,6 +607,9 @@ steps-consume s c d t line character q =
     let e = b .is in
     record {
       place = x .at;
+      code = x .ch;
+      first = x .first;
+      found = x .found;
       behind = omega arith;
       moves = omega arith;
       in-text = reach-within (l .1) (x .readied .reach);
@@ -655,12 +660,10 @@ told s c h r (Took t line character d) x =
     let f = on (reach-more r (b .reach)) (b .char) in
     let p = reach-more f (x .readied .reach) in (
       record {
-        at = x .first .at;
-        behind = reach-on (on (b .reach) (b .char));
-        before = reach-on (x .readied .reach);
-        times = 0;
-        not-few = omega arith;
-        not-many = omega arith;
+        place = x .at;
+        code = x .ch;
+        first = x .first;
+        found = x .found;
         position = rw (x .on-line, x .on-character) (positioned s (omega arith) f);
       },
       positioned s (omega arith) p,

@@ -1,12 +1,14 @@
 -- What holds of every step: what it consumes, and what its lines and characters mean.
-use Prim.Native.Nat.{ℕ, suc, _+_, _<_, _≤_}
+use Prim.Native.Nat.{ℕ, _<_, _≤_}
 use mathlib.Core.Path.{_≡_}
 use lib.ListN.{length}
 use Rattle.base.specs.Bytes.{Bytes}
 use Rattle.base.specs.declared.Range.{Range}
 use Rattle.cursor.specs.Cursor.{start}
+use Rattle.cursor.specs.Blank.{nextSignificantChar}
 use Rattle.cursor.specs.Position.{Position}
 use Rattle.cursor.specs.declared.Cursor.{Cursor}
+use Rattle.cursor.specs.declared.Significant.the-variants.{Found}
 use Rattle.token.specs.Step.{stepOf}
 use Rattle.token.specs.declared.Step.{Step}
 use Rattle.token.specs.declared.Step.the-variants.{Wrong, End, Took}
@@ -75,10 +77,13 @@ Inside from to DoubleColon = Unit {0}
 Inside from to SemiColon = Unit {0}
 Inside from to Comma = Unit {0}
 
--- A step that takes a token consumes at least a byte and ends within the text. The token stands behind the place where the
--- step began, and its range lies between the token's own place and the place behind it.
+-- A step that takes a token consumes at least a byte and ends within the text. The token's own place is that of its first
+-- character, the first behind blanks and comments; its range lies between that place and the one behind the token.
 pub record Consumed (s : Bytes) (c : Cursor) (t : Token) (d : Cursor) : Type 0 where
   pub place : ℕ
+  pub code : ℕ
+  pub first : Cursor
+  pub found : nextSignificantChar s c ≡ Found place code first
   pub behind : c .at ≤ place
   pub moves : place < d .at
   pub in-text : d .at ≤ length s
@@ -105,12 +110,20 @@ pub record Place (s : Bytes) (least most : ℕ) (from to line character : ℕ) :
   pub not-many : times ≤ most
   pub position : Position s times at line character
 
+-- the first character behind blanks and comments, with its line and character
+pub record First (s : Bytes) (c : Cursor) (line character : ℕ) : Type 0 where
+  pub place : ℕ
+  pub code : ℕ
+  pub first : Cursor
+  pub found : nextSignificantChar s c ≡ Found place code first
+  pub position : Position s 0 (first .at) line character
+
 -- What the lines and characters of a step from a cursor of the text say: a token's are those of its first character, the
--- place behind it has those of its last one; an error's are those of the last character read, or of the end, read once;
--- at the end it is read once, and before that once more by a line comment that runs into it.
+-- place behind it has those of its last one; an error's are those of a character from the cursor on, or of the end, read
+-- once; at the end it is read once, and before that once more by a line comment that runs into it.
 abbrev pub Told : Bytes → Cursor → Step → Type 0
 Told s c (Took t line character d) =
-    Place s 0 0 (c .at) (d .at) line character × Position s 0 (d .at) (d .line) (d .character)
+    First s c line character × Position s 0 (d .at) (d .line) (d .character)
 Told s c (Wrong reason line character) = Place s 0 1 (c .at) (length s) line character
 Told s c (End d) = Place s 1 2 (c .at) (length s) (d .line) (d .character)
 
