@@ -2,13 +2,14 @@
 use Prim.Native.Nat.{ℕ}
 use mathlib.Core.Path.{_≡_}
 use mathlib.Core.List.{List, []}
+use Rattle.color.specs.declared.Color.{Color}
 use Rattle.grammar.specs.Token.{Name, Token}
 use Rattle.grammar.specs.Reading.{Reading}
 use Rattle.grammar.specs.Input.{Input, over, Answer, read}
 use Rattle.grammar.specs.Reader.{load}
 use Rattle.grammar.specs.Stream.{Whole, Sheet, Fueled}
 use Rattle.grammar.specs.Capacity.{Tables, empty, tablesOf, limited, Bounded}
-use Rattle.grammar.specs.Alike.{Alike, Stands, NamesGenuine}
+use Rattle.grammar.specs.Alike.{Alike, Stands, TokensGenuine}
 
 module _ {C T P R : Type 0} (i : Input C T P R) where
   -- the text at c is one of the grammar's, and js is a reading of it
@@ -41,12 +42,12 @@ module _ {C T P R : Type 0} (i : Input C T P R) where
 
   -- ---- the same of any tables that stand for those, such as the tables lent to a load
 
-  module _ (Genuine : Name → Type 0) (Rel : T → Tables → Type 0) (capacity : ℕ → ℕ) where
+  module _ (Genuine : Name → Type 0) (Small : Color → Type 0) (Rel : T → Tables → Type 0) (capacity : ℕ → ℕ) where
     -- refused alike too, with the same refusal
     abbrev pub StoredAlike : Type 0
     StoredAlike =
-        NamesGenuine Genuine i
-        → Stands Genuine Rel (i .store) (limited capacity)
+        TokensGenuine Genuine Small i
+        → Stands Genuine Small Rel (i .store) (limited capacity)
         → Fueled i
         → (c : C) (τ : T)
         → Rel τ empty
@@ -54,8 +55,8 @@ module _ {C T P R : Type 0} (i : Input C T P R) where
 
     abbrev pub StoredAccepted : Type 0
     StoredAccepted =
-        NamesGenuine Genuine i
-        → Stands Genuine Rel (i .store) (limited capacity)
+        TokensGenuine Genuine Small i
+        → Stands Genuine Small Rel (i .store) (limited capacity)
         → Fueled i
         → (c f : C) (τ υ : T) (js : Reading)
         → Rel τ empty
@@ -64,8 +65,8 @@ module _ {C T P R : Type 0} (i : Input C T P R) where
 
     abbrev pub StoredAccepts : Type 0
     StoredAccepts =
-        NamesGenuine Genuine i
-        → Stands Genuine Rel (i .store) (limited capacity)
+        TokensGenuine Genuine Small i
+        → Stands Genuine Small Rel (i .store) (limited capacity)
         → Fueled i
         → (c : C) (τ : T) (js : Reading)
         → Rel τ empty

@@ -6,6 +6,7 @@ use mathlib.Core.Bool.{Bool, true, false, cond}
 use mathlib.Core.List.{List}
 use lib.Ieee.{Float}
 use Rattle.base.specs.Bytes.{Bytes}
+use Rattle.color.specs.declared.Color.{Color}
 use Rattle.grammar.specs.Token.{Name, Token}
 use Rattle.grammar.specs.Reading.{Reading, Colors}
 use Rattle.grammar.specs.Input.{Input, Store, over, Answer, read}
@@ -109,20 +110,21 @@ module _ {A C T U R : Type 0} {Rel : T → U → Type 0} where
       (τ, (rw (p, q), subst (λ υ. Rel τ υ) r s))
   read-left {x = x} {c = c} {υ = υ} (bothRefused s) e = let z : _≡_ {A = Bool} true false = cc in absurd (subst (λ b. cond b Unit ⊥) z tt)
 
-module _ {C T P R : Type 0} (i : Input C T P R) (Genuine : Name → Type 0) (Rel : T → Tables → Type 0) (capacity : ℕ → ℕ) where
-  pub stored-alike : StoredAlike i Genuine Rel capacity
+module _ {C T P R : Type 0} (i : Input C T P R) (Genuine : Name → Type 0) (Small : Color → Type 0)
+    (Rel : T → Tables → Type 0) (capacity : ℕ → ℕ) where
+  pub stored-alike : StoredAlike i Genuine Small Rel capacity
   stored-alike n stands fueled c τ s =
-      loads-alike i (i .fuel) (limited capacity) Genuine Rel n stands fueled
+      loads-alike i (i .fuel) (limited capacity) Genuine Small Rel n stands fueled
       (λ c d p h. fueled c d p (gives-back i (i .fuel) (limited capacity) h))
       c τ empty s
 
-  pub stored-accepted : StoredAccepted i Genuine Rel capacity
+  pub stored-accepted : StoredAccepted i Genuine Small Rel capacity
   stored-accepted n stands fueled c f τ υ js s e =
       let h = read-right (stored-alike n stands fueled c τ s) e in
       let a = accepted i capacity c f js (h .0) (h .1 .0) in
       (a .0, (a .1 .0, subst (Rel υ) (a .1 .1) (h .1 .1)))
 
-  pub stored-accepts : StoredAccepts i Genuine Rel capacity
+  pub stored-accepts : StoredAccepts i Genuine Small Rel capacity
   stored-accepts n stands fueled c τ js s r b =
       let a = accepts i fueled capacity c js r b in
       let h = read-left (stored-alike n stands fueled c τ s) (a .1) in

@@ -2,7 +2,8 @@
 use Prim.Native.Nat.{ℕ}
 use mathlib.Core.Path.{_≡_}
 use mathlib.Core.Option.{Option, none, some}
-use Rattle.grammar.specs.Token.{Name, colorRef}
+use Rattle.color.specs.declared.Color.{Color}
+use Rattle.grammar.specs.Token.{Name, colorRef, color}
 use Rattle.grammar.specs.Input.{Entry, ruleEntry, selectorEntry, testEntry, propertyEntry, numberEntry, colorEntry, token, Store, Input, over, Answer, refused, read}
 use Rattle.grammar.specs.Reader.{load}
 use Rattle.grammar.specs.Stream.{Fueled}
@@ -19,15 +20,16 @@ module _ {T U : Type 0} (Rel : T → U → Type 0) where
     bothFull : BothPut none none
     bothTake : {τ : T} {υ : U} → Rel τ υ → BothPut (some τ) (some υ)
 
--- Genuine n: a name of a colour as the tokenizer makes it, say, one whose bytes stand where its ranges are
-module _ (Genuine : Name → Type 0) where
+-- Genuine n: a name of a colour as the tokenizer makes it, say, one whose bytes stand where its ranges are. Small c: a colour
+-- as the tokenizer makes it, say, one of three bytes.
+module _ (Genuine : Name → Type 0) (Small : Color → Type 0) where
   abbrev pub Proper : Entry → Type 0
   Proper ruleEntry = Unit
   Proper (selectorEntry s) = Unit
   Proper (testEntry t) = Unit
   Proper (propertyEntry p) = Unit
   Proper (numberEntry x) = Unit
-  Proper (colorEntry n c) = Genuine n
+  Proper (colorEntry n c) = Genuine n × Small c
 
   -- the stores take entries alike, and show the same colours
   pub record Stands {T U : Type 0} (Rel : T → U → Type 0) (s : Store T) (z : Store U) : Type 0 where
@@ -37,6 +39,12 @@ module _ (Genuine : Name → Type 0) where
   module _ {C T P R : Type 0} (i : Input C T P R) where
     abbrev pub NamesGenuine : Type 0
     NamesGenuine = (c d : C) (o : P) (n : Name) → i .next c ≡ token (colorRef n) o d → Genuine n
+
+    abbrev pub ColorsSmall : Type 0
+    ColorsSmall = (c d : C) (o : P) (x : Color) → i .next c ≡ token (color x) o d → Small x
+
+    abbrev pub TokensGenuine : Type 0
+    TokensGenuine = NamesGenuine × ColorsSmall
 
     -- loads into tables that stand for one another are alike, whatever their fuel, if it is enough
     abbrev pub LoadsAlike : {U : Type 0} → (C → ℕ) → Store U → (T → U → Type 0) → Type 0

@@ -19,10 +19,11 @@ use Rattle.grammar.specs.Stream.{Gives, here, _▸_, Ample, Fueled}
 use Rattle.grammar.specs.Laws.{join, found, gives-over}
 use Rattle.grammar.specs.Sound.{test-reads, value-reads, selector-reads, rule-reads, color-reads}
 use Rattle.grammar.specs.Complete.{rule-long}
-use Rattle.grammar.specs.Alike.{Alike, bothRefused, bothRead, BothPut, bothFull, bothTake, Proper, Stands, NamesGenuine, LoadsAlike}
+use Rattle.grammar.specs.Alike.{Alike, bothRefused, bothRead, BothPut, bothFull, bothTake, Proper, Stands, TokensGenuine, LoadsAlike}
 
 module _ {C T U P R : Type 0} (i : Input C T P R) (g : C → ℕ) (z : Store U) (Genuine : Name → Type 0)
-    (Rel : T → U → Type 0) (genuine : NamesGenuine Genuine i) (stands : Stands Genuine Rel (i .store) z) where
+    (Small : Color → Type 0) (Rel : T → U → Type 0) (genuine : TokensGenuine Genuine Small i)
+    (stands : Stands Genuine Small Rel (i .store) z) where
   abbrev j : Input C U P R
   j = over i g z
 
@@ -47,7 +48,8 @@ module _ {C T U P R : Type 0} (i : Input C T P R) (g : C → ℕ) (z : Store U) 
     option-alike (some b) x y = y b
 
     next-alike :
-        (n : Next C P R) {τ : T} {υ : U} {f : C → Answer A C T R} {g : Token → P → C → Answer A C T R} {h : C → Answer A C U R} {k : Token → P → C → Answer A C U R}
+        (n : Next C P R) {τ : T} {υ : U} {f : C → Answer A C T R} {g : Token → P → C → Answer A C T R}
+        {h : C → Answer A C U R} {k : Token → P → C → Answer A C U R}
         → Rel τ υ
         → ((d : C) → Alike Rel (f d) (h d))
         → ((t : Token) (o : P) (d : C) → n ≡ token t o d → Alike Rel (g t o d) (k t o d))
@@ -143,7 +145,8 @@ module _ {C T U P R : Type 0} (i : Input C T P R) (g : C → ℕ) (z : Store U) 
     number-alike (sign x) m n = n
 
     zoom-alike :
-        (t : Token) {f : Option ℕ → Option ℕ → Answer A C T R} {g : Answer A C T R} {h : Option ℕ → Option ℕ → Answer A C U R} {k : Answer A C U R}
+        (t : Token) {f : Option ℕ → Option ℕ → Answer A C T R} {g : Answer A C T R}
+        {h : Option ℕ → Option ℕ → Answer A C U R} {k : Answer A C U R}
         → ((x : Option ℕ) (y : Option ℕ) → Alike Rel (f x y) (h x y))
         → Alike Rel g k
         → Alike Rel (on-zoomRange t f g) (on-zoomRange t h k)
@@ -171,6 +174,21 @@ module _ {C T U P R : Type 0} (i : Input C T P R) (g : C → ℕ) (z : Store U) 
     color-alike (zoomRange x y) m n = n
     color-alike (color x) m n = m x
     color-alike (sign x) m n = n
+
+    tint-alike :
+        (t : Token) {f : Answer A C T R} {g : Color → Answer A C T R} {h : Answer A C U R} {k : Color → Answer A C U R}
+        → Alike Rel f h
+        → ((x : Color) → t ≡ color x → Alike Rel (g x) (k x))
+        → Alike Rel (on-option (colorOf t) f g) (on-option (colorOf t) h k)
+    unfolding colorOf on-color on-option
+    tint-alike (import x) m n = m
+    tint-alike (identifier x) m n = m
+    tint-alike (string x) m n = m
+    tint-alike (colorRef x) m n = m
+    tint-alike (number x) m n = m
+    tint-alike (zoomRange x y) m n = m
+    tint-alike (color x) m n = n x refl
+    tint-alike (sign x) m n = m
 
   -- ---- fuel: a token less is left behind each token
 
@@ -212,7 +230,7 @@ module _ {C T U P R : Type 0} (i : Input C T P R) (g : C → ℕ) (z : Store U) 
 
     keep-alike :
         (e : Entry)
-        → Proper Genuine e
+        → Proper Genuine Small e
         → (c : C) {τ : T} {υ : U} {f : T → Answer A C T R} {h : U → Answer A C U R}
         → Rel τ υ
         → ((φ : T) (ψ : U) → Rel φ ψ → Alike Rel (f φ) (h ψ))
@@ -223,7 +241,9 @@ module _ {C T U P R : Type 0} (i : Input C T P R) (g : C → ℕ) (z : Store U) 
         go :
             (a : Option T) (b : Option U)
             → BothPut Rel a b
-            → Alike Rel (on-option a (refused (i .why (full e) (i .reached c)) τ) f) (on-option b (refused (i .why (full e) (i .reached c)) υ) h)
+            → Alike Rel
+            (on-option a (refused (i .why (full e) (i .reached c)) τ) f)
+            (on-option b (refused (i .why (full e) (i .reached c)) υ) h)
         go none none bothFull = bothRefused s
         go (some φ) (some ψ) (bothTake r) = k φ ψ r
 
@@ -271,7 +291,8 @@ module _ {C T U P R : Type 0} (i : Input C T P R) (g : C → ℕ) (z : Store U) 
       (bothRefused s))
 
   key-alike :
-      (a : Name) (c : C) {τ : T} {υ : U} (f : Name → T → Token → P → C → Answer Test C T R) (h : Name → U → Token → P → C → Answer Test C U R)
+      (a : Name) (c : C) {τ : T} {υ : U} (f : Name → T → Token → P → C → Answer Test C T R)
+      (h : Name → U → Token → P → C → Answer Test C U R)
       → Rel τ υ
       → ((a : Name) (t : Token) (o : P) (d : C) → Alike Rel (f a τ t o d) (h a υ t o d))
       → Alike Rel (readKey i a c τ f) (readKey j a c υ h)
@@ -455,8 +476,11 @@ module _ {C T U P R : Type 0} (i : Input C T P R) (g : C → ℕ) (z : Store U) 
   -- ---- sheets
 
   color-def-alike : (n : Name) → Genuine n → (c : C) {τ : T} {υ : U} → Rel τ υ → Alike Rel (readColorDef i n c τ) (readColorDef j n c υ)
-  color-def-alike n y c s = expect-alike colon c s λ o d t e. token-alike d s λ x o f e. expect-alike semiColon f s λ o w t e.
-      option-alike (colorOf x) (bothRead s) λ v. keep-alike (colorEntry n v) y w s λ φ ψ s. bothRead s
+  color-def-alike n y c s = expect-alike colon c s λ o d t e. token-alike d s λ x o f q. expect-alike semiColon f s λ o w t e.
+      tint-alike x (bothRead s) λ v p. keep-alike (colorEntry n v) (y, small q p) w s λ φ ψ s. bothRead s
+    where
+      small : {d f : C} {o : P} {x : Token} {v : Color} → i .next d ≡ token x o f → x ≡ color v → Small v
+      small {d} {f} {o} {x} {v} q p = genuine .1 d f o v (found i q p)
 
   before-alike :
       (js : Reading) {a : Answer Reading C T R} {b : Answer Reading C U R}
@@ -478,7 +502,7 @@ module _ {C T U P R : Type 0} (i : Input C T P R) (g : C → ℕ) (z : Store U) 
   parse-alike imp imq hi (suc k) (suc l) c {τ} {υ} a b s = next-alike (i .next c) s (λ d. bothRead s) λ t o d e.
       import-alike t (λ n. expect-alike semiColon d s λ o f t h. after-alike (hi n f _ _ s) λ js y τ υ q s.
       before-alike js (parse-alike imp imq hi k l f (later (h ▸ here) (behind e a)) (later (h ▸ here) (behind e b)) s))
-      (colorRef-alike t (λ n q. after-alike (color-def-alike n (genuine c d o n (found i e q)) d s) λ js f τ υ q s.
+      (colorRef-alike t (λ n q. after-alike (color-def-alike n (genuine .0 c d o n (found i e q)) d s) λ js f τ υ q s.
       let m = (color-reads i n d _ js f τ q) .1 .1 .0 in
       before-alike js (parse-alike imp imq hi k l f (later m (behind e a)) (later m (behind e b)) s))
       (after-alike (ruled t o d e) λ r f τ υ q s.
@@ -510,8 +534,9 @@ module _ {C T U P R : Type 0} (i : Input C T P R) (g : C → ℕ) (z : Store U) 
     load-alike c τ υ s = parse-alike (importFile i 8) (importFile j 8) (import-file-alike 8) (i .fuel c) (g c) c (fueled c) (fueled′ c) s
 
 pub loads-alike :
-    {C T U P R : Type 0} (i : Input C T P R) (g : C → ℕ) (z : Store U) (Genuine : Name → Type 0) (Rel : T → U → Type 0)
-    → NamesGenuine Genuine i
-    → LoadsAlike Genuine i g z Rel
-loads-alike i g z Genuine Rel n stands f f′ c τ υ s =
-    load-alike i g z Genuine Rel n stands f (λ c d p h. f′ c d p (gives-over i g z h)) c τ υ s
+    {C T U P R : Type 0} (i : Input C T P R) (g : C → ℕ) (z : Store U) (Genuine : Name → Type 0)
+    (Small : Color → Type 0) (Rel : T → U → Type 0)
+    → TokensGenuine Genuine Small i
+    → LoadsAlike Genuine Small i g z Rel
+loads-alike i g z Genuine Small Rel n stands f f′ c τ υ s =
+    load-alike i g z Genuine Small Rel n stands f (λ c d p h. f′ c d p (gives-over i g z h)) c τ υ s

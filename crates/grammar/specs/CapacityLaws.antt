@@ -24,7 +24,7 @@ use Rattle.grammar.specs.Complete.{load-complete}
 
 -- ---- counting
 
-last-count : (e : Entry) (es : List Entry) (k : ℕ) → count k (es ++ (e ∷ [])) ≡ count k es + one (eqb (tableOf e) k)
+pub last-count : (e : Entry) (es : List Entry) (k : ℕ) → count k (es ++ (e ∷ [])) ≡ count k es + one (eqb (tableOf e) k)
 unfolding count
 last-count e [] k = omega arith
 last-count e (x ∷ es) k = let h = last-count e es k in omega (arith, h)
@@ -142,7 +142,7 @@ module _ (capacity : ℕ → ℕ) where
   back : (e : Entry) (τ : Tables) → Fits capacity (add τ e) → Fits capacity τ
   back e τ f k = let h = f k in let g = add-grows e τ k in omega (arith, h, g)
 
-  onward : (e : Entry) (τ : Tables) → Fits capacity τ → room capacity e τ ≡ true → Fits capacity (add τ e)
+  pub onward : (e : Entry) (τ : Tables) → Fits capacity τ → room capacity e τ ≡ true → Fits capacity (add τ e)
   onward e τ f r k = by-test (eqb (tableOf e) k)
       (λ p.
       subst

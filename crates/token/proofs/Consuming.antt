@@ -151,7 +151,7 @@ module _ {B : Type 0} (P : B → Type 0) where
   split-DigitRead NoneRead a g p q = p refl
   split-DigitRead (OneRead v d) a g p q = q v d refl
 
-  split-Quoted :
+  pub split-Quoted :
       (x : Quoted) (f : Cursor → B) (g : Range → Cursor → B)
       → ((d : Cursor) → x ≡ Unclosed d → P (f d))
       → ((r : Range) (d : Cursor) → x ≡ Quotes r d → P (g r d))
@@ -160,12 +160,12 @@ module _ {B : Type 0} (P : B → Type 0) where
   split-Quoted (Unclosed d) f g p q = p d refl
   split-Quoted (Quotes r d) f g p q = q r d refl
 
-  split-Sign : (x : Sign) (a : B) (g : Token → B) → (x ≡ NoSign → P a) → ((t : Token) → x ≡ IsSign t → P (g t)) → P (on-Sign x a g)
+  pub split-Sign : (x : Sign) (a : B) (g : Token → B) → (x ≡ NoSign → P a) → ((t : Token) → x ≡ IsSign t → P (g t)) → P (on-Sign x a g)
   unfolding on-Sign
   split-Sign NoSign a g p q = p refl
   split-Sign (IsSign t) a g p q = q t refl
 
-  split-PairRead :
+  pub split-PairRead :
       (x : PairRead) (a : B) (g : Token → Cursor → B)
       → (x ≡ NoPair → P a)
       → ((t : Token) (d : Cursor) → x ≡ Pair t d → P (g t d))
@@ -174,7 +174,7 @@ module _ {B : Type 0} (P : B → Type 0) where
   split-PairRead NoPair a g p q = p refl
   split-PairRead (Pair t d) a g p q = q t d refl
 
-  split-Reading :
+  pub split-Reading :
       (x : Reading) (f : ℕ → ℕ → ℕ → B) (g : Token → Cursor → B)
       → ((r l k : ℕ) → x ≡ Failed r l k → P (f r l k))
       → ((t : Token) (d : Cursor) → x ≡ Ready t d → P (g t d))

@@ -4,6 +4,7 @@ use mathlib.Core.Path.{_≡_}
 use lib.ListN.{length}
 use Rattle.base.specs.Bytes.{Bytes}
 use Rattle.base.specs.declared.Range.{Range}
+use Rattle.color.specs.declared.Color.{Color as Rgb}
 use Rattle.cursor.specs.Cursor.{start}
 use Rattle.cursor.specs.Blank.{nextSignificantChar}
 use Rattle.cursor.specs.Position.{Position}
@@ -94,6 +95,13 @@ StepsConsume =
     (s : Bytes) (c d : Cursor) (t : Token) (line character : ℕ)
     → stepOf s c ≡ Took t line character d
     → Consumed s c t d
+
+-- the components of a colour token are bytes
+abbrev pub ColorsSmall : Type 0
+ColorsSmall =
+    (s : Bytes) (c d : Cursor) (x : Rgb) (line character : ℕ)
+    → stepOf s c ≡ Took (Color x) line character d
+    → (x .r < 256) × ((x .g < 256) × (x .b < 256))
 
 -- the cursors of a text: the first, and each that a step hands back with a token
 pub data Stepped (s : Bytes) : Cursor → Type 0 where
