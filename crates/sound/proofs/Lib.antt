@@ -1,0 +1,4 @@
+pub mod Checked
+pub mod Sound
+pub mod Drawn
+pub mod Passing
