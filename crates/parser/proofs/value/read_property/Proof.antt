@@ -1,0 +1,88 @@
+-- auto
+use mathlib.Core.Path.{refl}
+use native.Mathlib.Omega.{arith}
+use Rattle.base.specs.Choice.{via}
+use Rattle.parser.proofs.Laws.{another, beyond}
+use denote.Ref.{now}
+use Rattle.parser.specs.Answers.{Leads, stops, leads}
+use Rattle.parser.specs.Answers.{atProperties}
+use Rattle.parser.proofs.ValueLaws.{after-bad, after-good, widen-leads}
+-- end
+use borrow.Author.Needs.{needs}
+use Rattle.parser.proofs.value.read_property.Statement.{statement}
+use Rattle.parser.proofs.value.read_property.Tie as tie
+use Rattle.parser.proofs.value.read_property.Reads as reads
+use Rattle.parser.proofs.value.read_property.Lts as lts
+use Rattle.input.proofs.tokens.expect_colon.Reads as expect-colon-reads
+use Rattle.parser.proofs.value.read_property_value.Reads as read-property-value-reads
+use Rattle.parser.proofs.value.store_property.Reads as store-property-reads
+
+-- src/value.rt:245:11
+expect-colon-requires : tie.Need-expect-colon-requires
+expect-colon-requires c κs = search needs
+
+-- src/value.rt:246:23
+enum-known-e : tie.Need-enum-known-e
+enum-known-e c = search needs
+
+-- src/value.rt:247:22
+enum-known-d : tie.Need-enum-known-d
+enum-known-d c = search needs
+
+-- src/value.rt:247:34
+read-property-value-requires : tie.Need-read-property-value-requires
+read-property-value-requires c κs = search needs
+
+-- src/value.rt:248:33
+enum-known-e-2 : tie.Need-enum-known-e-2
+enum-known-e-2 c = search needs
+
+-- src/value.rt:249:34
+enum-known-value : tie.Need-enum-known-value
+enum-known-value c = search needs
+
+-- src/value.rt:249:50
+store-property-requires : tie.Need-store-property-requires
+store-property-requires c κs = search needs
+
+-- src/value.rt:232:1
+returns : tie.Need-returns
+returns c = λ τ k K h. another (Leads _ _ _ _ _ _) _ _ _ _ _ _ (via (c .before .before .before .expect-colon .ensures) (c .before .e .given .1)) (stops refl)
+
+-- src/value.rt:232:1
+same-length : tie.Need-same-length
+same-length c = search needs
+
+-- src/value.rt:232:1
+returns-2 : tie.Need-returns-2
+returns-2 c = λ τ k K h. beyond (Leads _ _ _ _ _ _) _ _ _ _ _ _ (via (c .before .before .before .before .before .before .before .before .before .before .expect-colon .ensures) (c .before .before .before .before .before .before .before .before .d .given .1)) (λ m1. after-bad (Leads _ _ _ _ _ _) _ (c .before .before .before .before .before .read-property-value .ensures (atProperties τ (now (c .before .before .before .before .before .before .before .before .before .before .before .before .before .before .before .args .properties)) (now (c .before .before .before .before .before .before .before .before .before .before .before .before .before .before .before .args .numbers)) (c .before .before .before .before .before .before .before .before .before .before .before .before .before .before .before .args .n)) k (omega arith)) (c .before .e2 .given .1) (λ e τ p. stops p))
+
+-- src/value.rt:232:1
+same-length-2 : tie.Need-same-length-2
+same-length-2 c = search needs
+
+-- src/value.rt:232:1
+same-length-3 : tie.Need-same-length-3
+same-length-3 c = search needs
+
+-- src/value.rt:232:1
+returns-3 : tie.Need-returns-3
+returns-3 c = λ τ k K h. beyond (Leads _ _ _ _ _ _) _ _ _ _ _ _ (via (c .before .before .before .before .before .before .before .before .before .before .before .before .before .before .expect-colon .ensures) (c .before .before .before .before .before .before .before .before .before .before .before .before .d .given .1)) (λ m1. after-good (Leads _ _ _ _ _ _) _ (c .before .before .before .before .before .before .before .before .before .read-property-value .ensures (atProperties τ (now (c .before .before .before .before .before .before .before .before .before .before .before .before .before .before .before .before .before .before .before .args .properties)) (now (c .before .before .before .before .before .before .before .before .before .before .before .before .before .before .before .before .before .before .before .args .numbers)) (c .before .before .before .before .before .before .before .before .before .before .before .before .before .before .before .before .before .before .before .args .n)) k (omega arith)) (c .before .before .before .before .before .value .given .1) (λ x l w. widen-leads (omega arith) (c .before .before .store-property .ensures (now (c .before .before .before .before .before .before .before .before .before .before .before .before .before .before .before .before .before .before .before .args .bundle)) (atProperties τ (now (c .before .before .before .before .before .before .before .before .before .before .before .before .before .before .before .before .before .before .before .args .properties)) (c .before .before .before .before .before .before .before .before .before .read-property-value .last .1 .1 .1 .1 .0) (c .before .before .before .before .before .before .before .before .before .before .before .before .before .before .before .before .before .before .before .args .n)) x K w)))
+
+pub read-property-spec : {M : Type 1} → statement M
+read-property-spec =
+    tie.close
+    (tie.spec
+    expect-colon-requires
+    enum-known-e
+    enum-known-d
+    read-property-value-requires
+    enum-known-e-2
+    enum-known-value
+    store-property-requires
+    returns
+    same-length
+    returns-2
+    same-length-2
+    same-length-3
+    returns-3)

@@ -1,0 +1,252 @@
+-- What the loader's private functions promise: their answers are those of the grammar's reader over the bundle and the lent tables.
+use Prim.Native.Nat.{ℕ, suc, _<_, _≤_}
+use mathlib.Core.Path.{_≡_}
+use mathlib.Core.Bool.{cond}
+use mathlib.Core.List.{List}
+use lib.Ieee.{Float}
+use Rattle.base.specs.Bytes.{Bytes, ascii, same, within}
+use Rattle.base.specs.declared.Range.{Range}
+use Rattle.base.specs.declared.refusal.Refusal.{Refusal}
+use Rattle.cursor.specs.declared.Cursor.{Cursor}
+use Rattle.sheet.specs.Sheet.{TextTest, NumericTest, isTrue, isFalse}
+use Rattle.sheet.specs.Digits.{isWhole}
+use Rattle.table.specs.Words.{testWords}
+use Rattle.table.specs.declared.Name.{Name}
+use Rattle.table.specs.declared.PropertyValue.{PropertyValue}
+use Rattle.grammar.specs.Token.{Name as Name′, joined, rightBracket, rightBrace, bang, colon, semiColon, comma}
+use Rattle.grammar.specs.View.{on-sign, on-identifier, on-number}
+use Rattle.grammar.specs.Reading.{Test, unary, text, plain, digits, Value, word, colored, numbers, Property, property, Colors, colorNamed}
+use Rattle.grammar.specs.Input.{Answer, refused, read, numberEntry, propertyEntry, notWhole, colorReference, on-option, after, fail, keep}
+use Rattle.grammar.specs.Reader.{readMandatoryToken, unexpectedToken, expectSimpleToken, readIdentifier, keepTest, readOperand, readNumber, bangTest, readKey, readNumberList, readSimpleEval, readPropertyValue, readProperties, readRule}
+use Rattle.input.specs.Lent.{Lent, lent, testRow, wordKind, digitsKind, numericKind, valueShown, freshNumbers, colorsOf}
+use Rattle.input.specs.Source.{Spot, spot, reading}
+use Rattle.input.specs.Text.{left, nameIn, nameOf, tokenOf}
+use Rattle.token.specs.declared.Token.{Token}
+use Rattle.input.specs.declared.Place.{Place}
+use Rattle.input.specs.declared.Source.{Source}
+use Rattle.input.specs.declared.Tally.{Tally}
+use Rattle.parser.specs.declared.Kept.{Kept}
+use Rattle.parser.specs.declared.Kept.the-variants.{Refused, Done}
+use Rattle.parser.specs.declared.Head.{Head}
+use Rattle.parser.specs.declared.Head.the-variants.{NoHead, LastHead, NextHead}
+use Rattle.parser.specs.declared.ValueRead.{ValueRead}
+use Rattle.parser.specs.declared.ValueRead.the-variants.{BadValue, GoodValue}
+use Rattle.parser.specs.declared.Listed.{Listed}
+use Rattle.parser.specs.declared.Listed.the-variants.{Unlisted, LastListed, NextListed}
+
+-- the answer r is the reader's: its refusal, or its cursor, behind which no more than so many bytes are left, and its tables
+pub data Reads {A : Type 0} (bundle : Bytes) (s : Source) (bound : ℕ) (tables : Tally → Lent) : Kept → Answer A Spot Lent Refusal → Type 0 where
+  refuses : {e e′ : Refusal} {τ : Lent} → e ≡ e′ → Reads bundle s bound tables (Refused e) (refused e′ τ)
+  done : {x : A} (d : Cursor) {n : Tally} → left bundle s d ≤ bound → Reads bundle s bound tables (Done d n) (read x (spot s d) (tables n))
+
+-- tables in which some stand as they are now
+abbrev pub atTests : Lent → List ℕ → List Float → Tally → Lent
+atTests τ ts xs n = lent n (τ .rules) (τ .selectors) ts (τ .properties) xs (τ .colors)
+
+abbrev pub atTest : Lent → List ℕ → Tally → Lent
+atTest τ ts n = atTests τ ts (τ .numbers) n
+
+-- what is read from a cursor on, with these tests and numbers before and after
+abbrev pub TestsRead :
+    {A : Type 0} → Bytes → Source → Cursor → Tally → List ℕ → List Float → List ℕ → List Float → (Lent → Answer A Spot Lent Refusal) → Kept → Type 0
+TestsRead bundle s c n ts xs ts′ xs′ f r = (τ : Lent) → Reads bundle s (left bundle s c) (atTests τ ts′ xs′) r (f (atTests τ ts xs n))
+
+-- with no number stored
+abbrev pub TestRead : {A : Type 0} → Bytes → Source → Cursor → Tally → List ℕ → List ℕ → (Lent → Answer A Spot Lent Refusal) → Kept → Type 0
+TestRead bundle s c n ts ts′ f r = (τ : Lent) → Reads bundle s (left bundle s c) (atTest τ ts′) r (f (atTest τ ts n))
+
+abbrev pub atNumbers : Lent → List Float → Tally → Lent
+atNumbers τ xs n = atTests τ (τ .tests) xs n
+
+-- ---- tests
+
+-- a test whose words are these is stored
+abbrev pub TestKept : Source → Cursor → Tally → List ℕ → List ℕ → List ℕ → Kept → Type 0
+TestKept s c n row ts ts′ r =
+    (bundle : Bytes) (x : Test)
+    → testRow x (n .number) ≡ row
+    → TestRead bundle s c n ts ts′ (keepTest (reading bundle) x (spot s c)) r
+
+-- a test with the number x is stored, behind the number
+abbrev pub NumberTestKept : Source → Cursor → Tally → ℕ → Name → Float → List ℕ → List Float → List ℕ → List Float → Kept → Type 0
+NumberTestKept s c n kind key x ts xs ts′ xs′ r =
+    (bundle : Bytes) (y : Test)
+    → ((p : ℕ) → testRow y p ≡ testWords kind key p 0)
+    → TestsRead bundle s c n ts xs ts′ xs′
+    (λ τ. keep (reading bundle) (numberEntry x) (spot s c) τ λ τ. keepTest (reading bundle) y (spot s c) τ) r
+
+-- behind the word b, by the kind of the test
+abbrev pub WordRead : Bytes → Source → Name → ℕ → Range → Cursor → Tally → List ℕ → List ℕ → Kept → Type 0
+WordRead bundle s key kind b c n ts ts′ r =
+    (op : TextTest)
+    → wordKind op ≡ kind
+    → TestRead bundle s c n ts ts′
+    (λ τ. expectSimpleToken (reading bundle) rightBracket (spot s c) τ λ e. keepTest (reading bundle) (text op (nameOf bundle key) (plain (nameIn bundle b))) e τ) r
+
+-- behind the number x
+abbrev pub DigitsRead : Bytes → Source → Name → ℕ → Float → Cursor → Tally → List ℕ → List Float → List ℕ → List Float → Kept → Type 0
+DigitsRead bundle s key kind x c n ts xs ts′ xs′ r =
+    (op : TextTest)
+    → digitsKind op ≡ kind
+    → TestsRead bundle s c n ts xs ts′ xs′
+    (λ τ. expectSimpleToken (reading bundle) rightBracket (spot s c) τ λ e.
+    cond (isWhole x)
+    (keep (reading bundle) (numberEntry x) e τ λ τ. keepTest (reading bundle) (text op (nameOf bundle key) (digits x)) e τ)
+    (fail (reading bundle) notWhole (reading bundle .reached e) τ)) r
+
+abbrev pub OperandRead : Bytes → Source → Name → ℕ → ℕ → Cursor → Tally → List ℕ → List Float → List ℕ → List Float → Kept → Type 0
+OperandRead bundle s key words figures c n ts xs ts′ xs′ r =
+    (op : TextTest)
+    → wordKind op ≡ words
+    → digitsKind op ≡ figures
+    → TestsRead bundle s c n ts xs ts′ xs′ (readOperand (reading bundle) op (nameOf bundle key) (spot s c)) r
+
+abbrev pub NumericRead : Bytes → Source → Name → ℕ → Cursor → Tally → List ℕ → List Float → List ℕ → List Float → Kept → Type 0
+NumericRead bundle s key kind c n ts xs ts′ xs′ r =
+    (op : NumericTest)
+    → numericKind op ≡ kind
+    → TestsRead bundle s c n ts xs ts′ xs′ (readNumber (reading bundle) op (nameOf bundle key) (spot s c)) r
+
+-- behind the question mark of a test, without and with a bang before it
+abbrev pub isTrueOr : Bytes → Name′ → Spot → Lent → Answer Test Spot Lent Refusal
+isTrueOr bundle a p τ = readMandatoryToken (reading bundle) p τ λ t o e.
+    on-sign rightBracket t (keepTest (reading bundle) (unary isTrue a) e τ)
+    (on-sign bang t (expectSimpleToken (reading bundle) rightBracket e τ λ f. keepTest (reading bundle) (unary isFalse a) f τ)
+    (unexpectedToken (reading bundle) o τ))
+
+abbrev pub onlyFalse : Bytes → Name′ → Spot → Lent → Answer Test Spot Lent Refusal
+onlyFalse bundle a p τ = readMandatoryToken (reading bundle) p τ λ t o e.
+    on-sign rightBracket t (keepTest (reading bundle) (unary isFalse a) e τ)
+    (unexpectedToken (reading bundle) o τ)
+
+abbrev pub bangKey : Bytes → Spot → Lent → Answer Test Spot Lent Refusal
+bangKey bundle p τ = readIdentifier (reading bundle) p τ λ a e. readKey (reading bundle) a e τ (bangTest (reading bundle))
+
+-- ---- properties
+
+-- behind a number of a list: K is what its end leads to, N the next number
+pub data Lists {A : Type 0} (bundle : Bytes) (s : Source) (bound : ℕ) (K : Spot → Answer A Spot Lent Refusal) (N : Float → Spot → Answer A Spot Lent Refusal) : Listed → Answer A Spot Lent Refusal → Type 0 where
+  unlisted : {e e′ : Refusal} {τ : Lent} → e ≡ e′ → Lists bundle s bound K N (Unlisted e) (refused e′ τ)
+  lastListed : (d : Cursor) → left bundle s d < bound → Lists bundle s bound K N (LastListed d) (K (spot s d))
+  nextListed : (x : Float) (d : Cursor) → left bundle s d < bound → Lists bundle s bound K N (NextListed x d) (N x (spot s d))
+
+abbrev pub ListedRead : Bytes → Source → Cursor → Listed → Type 0
+ListedRead bundle s c r =
+    (τ : Lent) (K : Spot → Answer (List Float) Spot Lent Refusal) (N : Float → Spot → Answer (List Float) Spot Lent Refusal)
+    → Lists bundle s (left bundle s c) K N r
+    (readMandatoryToken (reading bundle) (spot s c) τ λ t o d.
+    on-sign semiColon t (K d)
+    (on-sign comma t (readMandatoryToken (reading bundle) d τ λ t o e. on-number t (λ y. N y e) (unexpectedToken (reading bundle) o τ))
+    (unexpectedToken (reading bundle) o τ)))
+
+abbrev pub NumbersRead : Bytes → Source → Float → Cursor → Tally → List Float → List Float → Kept → Type 0
+NumbersRead bundle s x c n xs xs′ r =
+    (τ : Lent) (k : ℕ)
+    → left bundle s c < k
+    → Reads bundle s (left bundle s c) (atNumbers τ xs′) r (readNumberList (reading bundle) k x (spot s c) (atNumbers τ xs n))
+
+-- the value v, shown with the numbers that no entry has
+pub data Values (bundle : Bytes) (s : Source) (bound : ℕ) (tables : Tally → Lent) : ValueRead → Answer Value Spot Lent Refusal → Type 0 where
+  badValue : {e e′ : Refusal} {τ : Lent} → e ≡ e′ → Values bundle s bound tables (BadValue e) (refused e′ τ)
+  goodValue :
+      (v : Value) (d : Cursor) {n : Tally} {p : PropertyValue}
+      → left bundle s d ≤ bound
+      → valueShown v (freshNumbers n) ≡ p
+      → Values bundle s bound tables (GoodValue p d n) (read v (spot s d) (tables n))
+
+-- with no number stored
+abbrev pub ValueAnswer : Bytes → Source → Cursor → Tally → (Lent → Answer Value Spot Lent Refusal) → ValueRead → Type 0
+ValueAnswer bundle s c n f r = (τ : Lent) → Values bundle s (left bundle s c) (atNumbers τ (τ .numbers)) r (f (atNumbers τ (τ .numbers) n))
+
+abbrev pub NumbersAnswer : Bytes → Source → Cursor → Tally → List Float → List Float → (ℕ → Lent → Answer Value Spot Lent Refusal) → ValueRead → Type 0
+NumbersAnswer bundle s c n xs xs′ f r =
+    (τ : Lent) (k : ℕ)
+    → left bundle s c < k
+    → Values bundle s (left bundle s c) (atNumbers τ xs′) r (f k (atNumbers τ xs n))
+
+-- a value before its semicolon
+abbrev pub ValueEnd : Bytes → Source → PropertyValue → Cursor → Tally → ValueRead → Type 0
+ValueEnd bundle s p c n r =
+    (v : Value)
+    → valueShown v (freshNumbers n) ≡ p
+    → ValueAnswer bundle s c n (λ τ. expectSimpleToken (reading bundle) semiColon (spot s c) τ λ e. read v e τ) r
+
+-- behind the first word of a value that is no eval, and behind its colon
+abbrev pub joinedValue : Bytes → Range → Spot → Lent → Answer Value Spot Lent Refusal
+joinedValue bundle a p τ = readIdentifier (reading bundle) p τ λ b f.
+    expectSimpleToken (reading bundle) semiColon f τ λ g. read (word (joined (nameIn bundle a) b)) g τ
+
+abbrev pub wordValue : Bytes → Range → Spot → Lent → Answer Value Spot Lent Refusal
+wordValue bundle a p τ = readMandatoryToken (reading bundle) p τ λ t o e.
+    on-sign colon t (joinedValue bundle a e τ)
+    (on-sign semiColon t (read (word (nameIn bundle a)) e τ)
+    (unexpectedToken (reading bundle) o τ))
+
+-- a reference to one of the colours
+abbrev pub referenceValue : Bytes → Range → Colors → Spot → Lent → Answer Value Spot Lent Refusal
+referenceValue bundle a Γ p τ =
+    on-option (colorNamed (nameIn bundle a) Γ) (fail (reading bundle) colorReference (reading bundle .reached p) τ) λ x.
+    expectSimpleToken (reading bundle) semiColon p τ λ e. read (colored x) e τ
+
+-- an identifier, which is eval or a word; o is where it begins
+abbrev pub identifierValue : Bytes → Range → Place → Spot → ℕ → Lent → Answer Value Spot Lent Refusal
+identifierValue bundle a o p k τ =
+    cond (same (within a bundle) (ascii "eval")) (readSimpleEval (reading bundle) k o p τ) (wordValue bundle a p τ)
+
+abbrev pub listValue : Bytes → Float → Spot → ℕ → Lent → Answer Value Spot Lent Refusal
+listValue bundle x p k τ = after (readNumberList (reading bundle) k x p τ) λ xs e τ. read (numbers xs) e τ
+
+-- what was read leads on: K is what comes next
+pub data Leads {A X : Type 0} (bundle : Bytes) (s : Source) (bound : ℕ) (tables : Tally → Lent) (K : X → Spot → Lent → Answer A Spot Lent Refusal) : Kept → Answer A Spot Lent Refusal → Type 0 where
+  stops : {e e′ : Refusal} {τ : Lent} → e ≡ e′ → Leads bundle s bound tables K (Refused e) (refused e′ τ)
+  leads : (x : X) (d : Cursor) {n : Tally} → left bundle s d ≤ bound → Leads bundle s bound tables K (Done d n) (K x (spot s d) (tables n))
+
+abbrev pub atProperties : Lent → List ℕ → List Float → Tally → Lent
+atProperties τ ps xs n = lent n (τ .rules) (τ .selectors) (τ .tests) ps xs (τ .colors)
+
+-- a property is stored
+abbrev pub PropertyKept : Source → Cursor → Tally → Range → PropertyValue → List ℕ → List ℕ → Kept → Type 0
+PropertyKept s c n name p ps ps′ r =
+    (bundle : Bytes) (τ : Lent) (x : Value) (K : Value → Spot → Lent → Answer (List Property) Spot Lent Refusal)
+    → valueShown x (freshNumbers n) ≡ p
+    → Leads bundle s (left bundle s c) (atProperties τ ps′ (τ .numbers)) K r
+    (keep (reading bundle) (propertyEntry (property (nameIn bundle name) x)) (spot s c) (atProperties τ ps (τ .numbers) n) λ τ. K x (spot s c) τ)
+
+-- behind the name of a property
+abbrev pub PropertyRead : Bytes → Source → Range → Cursor → Tally → Colors → List ℕ → List Float → List ℕ → List Float → Kept → Type 0
+PropertyRead bundle s a c n Γ ps xs ps′ xs′ r =
+    (τ : Lent) (k : ℕ) (K : Value → Spot → Lent → Answer (List Property) Spot Lent Refusal)
+    → left bundle s c < k
+    → Leads bundle s (left bundle s c) (atProperties τ ps′ xs′) K r
+    (expectSimpleToken (reading bundle) colon (spot s c) (atProperties τ ps xs n) λ e.
+    after (readPropertyValue (reading bundle) k Γ e (atProperties τ ps xs n)) λ x f τ.
+    keep (reading bundle) (propertyEntry (property (nameIn bundle a) x)) f τ λ τ. K x f τ)
+
+-- the beginning of a property: K is what the closing brace leads to, N a name
+pub data Heads {A : Type 0} (bundle : Bytes) (s : Source) (bound : ℕ) (K : Spot → Answer A Spot Lent Refusal) (N : Name′ → Spot → Answer A Spot Lent Refusal) : Head → Answer A Spot Lent Refusal → Type 0 where
+  noHead : {e e′ : Refusal} {τ : Lent} → e ≡ e′ → Heads bundle s bound K N (NoHead e) (refused e′ τ)
+  lastHead : (d : Cursor) → left bundle s d < bound → Heads bundle s bound K N (LastHead d) (K (spot s d))
+  nextHead : (a : Range) (d : Cursor) → left bundle s d < bound → Heads bundle s bound K N (NextHead a d) (N (nameIn bundle a) (spot s d))
+
+abbrev pub HeadRead : Bytes → Source → Cursor → Head → Type 0
+HeadRead bundle s c r =
+    (τ : Lent) (K : Spot → Answer (List Property) Spot Lent Refusal) (N : Name′ → Spot → Answer (List Property) Spot Lent Refusal)
+    → Heads bundle s (left bundle s c) K N r
+    (readMandatoryToken (reading bundle) (spot s c) τ λ t o d.
+    on-identifier t (λ a. N a d) (on-sign rightBrace t (K d) (unexpectedToken (reading bundle) o τ)))
+
+abbrev pub PropertiesRead : Bytes → Source → Cursor → Tally → Colors → List ℕ → List Float → List ℕ → List Float → Kept → Type 0
+PropertiesRead bundle s c n Γ ps xs ps′ xs′ r =
+    (τ : Lent) (k : ℕ)
+    → left bundle s c < k
+    → Reads bundle s (left bundle s c) (atProperties τ ps′ xs′) r (readProperties (reading bundle) k Γ (spot s c) (atProperties τ ps xs n))
+
+-- ---- rules
+
+-- at the start t of a selector, which begins at o; the colours are those of the table
+abbrev pub RuleRead : Bytes → Source → Token → Place → Cursor → Tally → List ℕ → List ℕ → List ℕ → List ℕ → List ℕ → List Float → List ℕ → List ℕ → List ℕ → List ℕ → List Float → Kept → Type 0
+RuleRead bundle s t o c n cs rs ss ts ps xs rs′ ss′ ts′ ps′ xs′ r =
+    (k : ℕ)
+    → left bundle s c < k
+    → Reads bundle s (left bundle s c) (λ m. lent m rs′ ss′ ts′ ps′ xs′ cs) r
+    (readRule (reading bundle) (suc k) (colorsOf bundle cs (n .colors)) (lent n rs ss ts ps xs cs) (tokenOf bundle t) o (spot s c))

@@ -1,0 +1,5 @@
+pub mod Answers
+pub mod Eval
+pub mod Rules
+pub mod Sheets
+pub mod Load
