@@ -24,15 +24,25 @@
 //               an error: reason (1 to 12), line, character
 //
 // number[0] is the number of a Number, and 0.0 for everything else.
+//
+// mapcss_load(bundle, rules, selectors, tests, properties, numbers, colors, out) loads a bundle's sheet into six tables, laid out
+// as docs/TABLES.md says. It answers 0 and stores the counts of rules, selectors, tests, properties, numbers and colours in
+// out[0..6]; or it answers the refusal's number, and stores number, reason, text, line, character and a 0; then all six tables are zero.
 ghost use mathlib.Core.Path.{_≡_};
 ghost use lib.ListN.{set};
 ghost use Rattle.base.specs.Table.{stored};
 ghost use Rattle.cursor.specs.Cursor.{cursor};
 ghost use Rattle.token.specs.Step.{stepOf};
+ghost use lib.ListN.{length};
+ghost use Rattle.input.specs.Encode.{lengths};
+ghost use Rattle.parser.specs.Load.{held, loadOf};
+ghost use Rattle.capi.specs.Load.{LoadAnswered, toldLoad, sixWords};
 ghost use Rattle.capi.specs.Told.{Answered, toldStep, toldToken, ranged, flag, present, height, numbered, payload, words};
 use base::Range;
 use base::set_float;
 use cursor::Cursor;
+use parser::Loaded;
+use parser::load;
 use token::Step;
 use token::Token;
 use token::ZoomLevel;
@@ -54,6 +64,17 @@ pub struct Told {
     pub line: usize,
     pub character: usize,
     pub payload: Payload,
+}
+
+// A load's answer: 0 or the refusal's number, and six words.
+pub struct Six {
+    pub kind: u64,
+    pub a: u64,
+    pub b: u64,
+    pub c: u64,
+    pub d: u64,
+    pub e: u64,
+    pub f: u64,
 }
 
 // One step of the tokenizer, as the top of this file says.
@@ -234,4 +255,59 @@ fn set_u64(t: &mut [u64], i: usize, v: u64)
     if i < t.len() {
         t[i] = v;
     }
+}
+
+// A load, as the top of this file says.
+#[no_mangle]
+pub extern "C" fn mapcss_load(
+    bundle: &[u8],
+    rules: &mut [u32],
+    selectors: &mut [u32],
+    tests: &mut [u32],
+    properties: &mut [u32],
+    numbers: &mut [f64],
+    colors: &mut [u32],
+    out: &mut [u64],
+) -> u64
+    ensures { λ r. ⌜ LoadAnswered (loadOf (now (bundle .entry)) (lengths (length (now (rules .entry))) (length (now (selectors .entry))) (length (now (tests .entry))) (length (now (properties .entry))) (length (now (numbers .entry))) (length (now (colors .entry))))) r (held (now (rules .exit)) (now (selectors .exit)) (now (tests .exit)) (now (properties .exit)) (now (numbers .exit)) (now (colors .exit))) (now (out .entry)) (now (out .exit)) ⌝ }
+{
+    let six = told_load(load(bundle, rules, selectors, tests, properties, numbers, colors));
+    store_six(out, six);
+    six.kind
+}
+
+fn told_load(loaded: Loaded) -> Six
+    ensures { λ r. ⌜ r ≡ toldLoad loaded ⌝ }
+{
+    match loaded {
+        Loaded::NotLoaded(x) => Six {
+            kind: x.number as u64,
+            a: x.number as u64,
+            b: x.reason as u64,
+            c: x.text as u64,
+            d: x.line as u64,
+            e: x.character as u64,
+            f: 0,
+        },
+        Loaded::Sheet(n) => Six {
+            kind: 0,
+            a: n.rules as u64,
+            b: n.selectors as u64,
+            c: n.tests as u64,
+            d: n.properties as u64,
+            e: n.numbers as u64,
+            f: n.colors as u64,
+        },
+    }
+}
+
+fn store_six(out: &mut [u64], six: Six)
+    ensures { λ _. ⌜ now (out .exit) ≡ stored (now (out .entry)) 0 (sixWords six) ⌝ }
+{
+    set_u64(out, 0, six.a);
+    set_u64(out, 1, six.b);
+    set_u64(out, 2, six.c);
+    set_u64(out, 3, six.d);
+    set_u64(out, 4, six.e);
+    set_u64(out, 5, six.f);
 }
