@@ -6,7 +6,7 @@ use std::path::{Path, PathBuf};
 use std::{env, fs};
 
 const MAPCSS: [&str; 5] = ["color", "parser", "style_cache", "styler", "token"];
-const PROBED: [&str; 1] = ["token"];
+const PROBED: [&str; 2] = ["parser", "token"];
 
 fn main() {
     let here = PathBuf::from(env::var("CARGO_MANIFEST_DIR").unwrap());

@@ -1,8 +1,15 @@
-//! Times both tokenizers on the same sheets in the same process.
+//! Times both tokenizers, and the load beside the original's parser, on the same sheets in the same process.
 
+use crate::bundles;
+use crate::loads::Lent;
+use crate::mapcss::parser::probe;
 use crate::mapcss::token::Tokenizer;
+use crate::model;
 use crate::sheets;
+use crate::tokens::{self, Payload};
+use std::collections::{BTreeMap, BTreeSet};
 use std::hint::black_box;
+use std::path::Path;
 use std::time::Instant;
 
 const ROUNDS: usize = 50;
@@ -22,33 +29,164 @@ pub fn bench() -> bool {
         // Taking turns, so that a busy moment of the machine falls on both.
         let (mut original, mut ours) = (Best::new(), Best::new());
         for _ in 0..ROUNDS {
-            original.round(&text, original_tokens);
-            ours.round(&text, our_tokens);
+            original.round(text.as_str(), original_tokens);
+            ours.round(text.as_str(), our_tokens);
         }
-        assert_eq!(original.tokens, ours.tokens);
+        assert_eq!(original.count, ours.count);
         let speed = |best: &Best| text.len() as f64 / 1e6 / best.seconds;
-        println!("{} bytes, {} tokens, best of {ROUNDS} rounds", text.len(), original.tokens);
+        println!("{} bytes, {} tokens, best of {ROUNDS} rounds", text.len(), original.count);
         println!("  original {:.1} MB/s", speed(&original));
         println!("  ours     {:.1} MB/s, {:.2} times the original", speed(&ours), original.seconds / ours.seconds);
     }
+    loads();
     true
 }
 
+/// A row for each size: ns for a byte, and how many times as fast as the original. Tables just large enough are lent,
+/// then tables of 16,384 entries, all of which a load clears.
+fn loads() {
+    println!("loads, best of {ROUNDS} rounds; ratio: original / ours");
+    println!("| bytes | rules | original ns/byte | ours ns/byte | ratio | ours, 16,384 entries lent | ratio |");
+    println!("|---|---|---|---|---|---|---|");
+    for (least, remarked) in [(1 << 10, false), (10 << 10, false), (100 << 10, false), (MOST_TEXT, true)] {
+        let text = load_text(least, remarked);
+        let bundle = bundles::single(&text);
+        let tables = match model::load(&bundle, &crate::load_run::ALL) {
+            Ok(tables) => tables,
+            Err(refusal) => panic!("the text for timing is refused: {refusal:?}"),
+        };
+        let (mut original, mut ours, mut large) = (Best::new(), Best::new(), Best::new());
+        let (mut exact, mut all) = (Loader::new(&tables.just_enough()), Loader::new(&crate::load_run::ALL));
+        for _ in 0..ROUNDS {
+            original.round(text.as_str(), original_rules);
+            ours.round(&bundle[..], |bundle| exact.rules(bundle));
+            large.round(&bundle[..], |bundle| all.rules(bundle));
+        }
+        assert!(original.count == ours.count && ours.count == large.count);
+        let ns = |best: &Best| best.seconds * 1e9 / text.len() as f64;
+        println!(
+            "| {} | {} | {:.2} | {:.2} | {:.2} | {:.2} | {:.2} |",
+            text.len(),
+            original.count,
+            ns(&original),
+            ns(&ours),
+            original.seconds / ours.seconds,
+            ns(&large),
+            original.seconds / large.seconds,
+        );
+    }
+}
+
+/// What a bundle of one text named `t0` has room for.
+const MOST_TEXT: usize = bundles::MOST_BYTES - 7;
+
+/// A text of the sheets' rules, at least (the last size: at most) so long. A colour is defined before its first use, and
+/// no text is imported. A MiB of rules has more entries than a table takes: there, every other line is a remark.
+fn load_text(size: usize, remarked: bool) -> String {
+    let mut definitions = BTreeMap::new();
+    let mut rules = Vec::new();
+    for sheet in sheets::texts() {
+        for item in items(&sheet) {
+            match item.defines {
+                Some(name) => drop(definitions.entry(name).or_insert(item.text)),
+                None if !item.imports => rules.push(item),
+                None => {}
+            }
+        }
+    }
+    let mut text = String::new();
+    let mut defined = BTreeSet::new();
+    for rule in rules.iter().cycle() {
+        let mut part = String::new();
+        // a name that is used in a `colors` block alone has no definition
+        for definition in rule.uses.iter().filter(|name| defined.insert(*name)).filter_map(|name| definitions.get(name))
+        {
+            part += definition;
+        }
+        part += &rule.text;
+        if remarked {
+            let remark: String =
+                rule.text.lines().filter(|line| !line.is_empty()).map(|line| format!("//{line}\n")).collect();
+            part += "\n";
+            part += &remark;
+            if text.len() + part.len() > size {
+                return text;
+            }
+        } else if text.len() >= size {
+            return text;
+        }
+        text += &part;
+    }
+    unreachable!()
+}
+
+/// A rule, a definition or an import at the top of a sheet, with the blanks and remarks before it.
+struct Item {
+    text: String,
+    defines: Option<String>,
+    uses: Vec<String>,
+    imports: bool,
+}
+
+fn items(sheet: &str) -> Vec<Item> {
+    let mut all = Vec::new();
+    let (mut from, mut depth) = (0, 0);
+    let fresh = || Item { text: String::new(), defines: None, uses: Vec::new(), imports: false };
+    let mut item = fresh();
+    for step in tokens::original(sheet) {
+        match (tokens::KINDS[step.kind as usize], step.payload) {
+            ("LeftBrace", _) => depth += 1,
+            ("RightBrace", _) => depth -= 1,
+            ("Import", _) => item.imports = true,
+            ("ColorRef", Payload::Range(a, b)) if depth == 0 => item.defines = Some(sheet[a..b].to_string()),
+            ("ColorRef", Payload::Range(a, b)) => item.uses.push(sheet[a..b].to_string()),
+            _ => {}
+        }
+        if depth == 0 && ["RightBrace", "SemiColon"].contains(&tokens::KINDS[step.kind as usize]) {
+            let to = step.cursor.unwrap().at;
+            item.text = sheet[from..to].to_string();
+            all.push(std::mem::replace(&mut item, fresh()));
+            from = to;
+        }
+    }
+    all
+}
+
 struct Best {
-    tokens: usize,
+    count: usize,
     seconds: f64,
 }
 
 impl Best {
     fn new() -> Best {
-        Best { tokens: 0, seconds: f64::INFINITY }
+        Best { count: 0, seconds: f64::INFINITY }
     }
 
-    fn round(&mut self, text: &str, count: impl Fn(&str) -> usize) {
+    /// What `read` makes is dropped after the clock has stopped.
+    fn round<T: ?Sized, R: Into<Read>>(&mut self, text: &T, mut read: impl FnMut(&T) -> R) {
         let start = Instant::now();
-        self.tokens = black_box(count(black_box(text)));
+        let made = black_box(read(black_box(text)));
         self.seconds = self.seconds.min(start.elapsed().as_secs_f64());
+        self.count = made.into().0;
     }
+}
+
+struct Read(usize);
+
+impl From<usize> for Read {
+    fn from(n: usize) -> Read {
+        Read(n)
+    }
+}
+
+impl<T> From<Vec<T>> for Read {
+    fn from(all: Vec<T>) -> Read {
+        Read(all.len())
+    }
+}
+
+fn original_rules(text: &str) -> Vec<crate::mapcss::parser::Rule> {
+    probe::parse(Path::new("."), "t0", text).unwrap()
 }
 
 fn original_tokens(text: &str) -> usize {
@@ -82,4 +220,37 @@ fn our_tokens(text: &str) -> usize {
 #[cfg(not(feature = "rattle"))]
 fn our_tokens(text: &str) -> usize {
     original_tokens(text)
+}
+
+#[cfg(feature = "rattle")]
+struct Loader {
+    lent: Lent,
+    room: crate::ffi::LoadRoom,
+}
+
+#[cfg(feature = "rattle")]
+impl Loader {
+    fn new(lent: &Lent) -> Loader {
+        Loader { lent: *lent, room: crate::ffi::LoadRoom::new(lent) }
+    }
+
+    fn rules(&mut self, bundle: &[u8]) -> usize {
+        let number = crate::ffi::raw_load(bundle, &self.lent, &mut self.room);
+        assert_eq!(number, 0, "refused {:?}", self.room.out);
+        self.room.out[0] as usize
+    }
+}
+
+#[cfg(not(feature = "rattle"))]
+struct Loader;
+
+#[cfg(not(feature = "rattle"))]
+impl Loader {
+    fn new(_: &Lent) -> Loader {
+        Loader
+    }
+
+    fn rules(&mut self, bundle: &[u8]) -> usize {
+        original_rules(bundles::texts(bundle)[0].1).len()
+    }
 }

@@ -1,6 +1,7 @@
 //! The exports of crate capi, one safe wrapper for each. Nothing checks these declarations
 //! against the Rattle source; its codes stand at the top of crates/capi/src/lib.rt.
 
+use crate::loads::{stride, Filled, Lent, Tables, NUMBERS};
 use crate::tokens::{bits, Cursor, Payload, Step, END, ERROR, KINDS};
 
 #[link(name = "capi", kind = "static")]
@@ -16,6 +17,25 @@ extern "C" {
         out_len: usize,
         number: *mut f64,
         number_len: usize,
+    ) -> u64;
+
+    fn mapcss_load(
+        bundle: *const u8,
+        bundle_len: usize,
+        rules: *mut u32,
+        rules_len: usize,
+        selectors: *mut u32,
+        selectors_len: usize,
+        tests: *mut u32,
+        tests_len: usize,
+        properties: *mut u32,
+        properties_len: usize,
+        numbers: *mut f64,
+        numbers_len: usize,
+        colors: *mut u32,
+        colors_len: usize,
+        out: *mut u64,
+        out_len: usize,
     ) -> u64;
 }
 
@@ -84,4 +104,105 @@ pub fn next_token(text: &[u8], from: Cursor) -> Step {
     assert!(unused.iter().chain(&p[used..]).all(|&word| word == 0), "kind {kind}, words {:?}", room.out);
     assert!(kind == 5 || room.number[0] == 0.0, "a number with kind {kind}");
     Step { kind, line, character, payload, cursor: (kind != ERROR).then_some(after) }
+}
+
+/// What mapcss_load writes, with some elements behind each table that are not lent.
+pub struct LoadRoom {
+    pub words: [Vec<u32>; 6],
+    pub numbers: Vec<f64>,
+    pub out: [u64; 7],
+}
+
+const BEHIND: usize = 8;
+const LEFT_WORD: u32 = 0xdead_beef;
+const LEFT_NUMBER: f64 = -1e300;
+
+impl LoadRoom {
+    /// Filled with what no answer leaves there.
+    pub fn new(lent: &Lent) -> LoadRoom {
+        let words = |table: usize| if table == NUMBERS { 0 } else { lent[table] + BEHIND };
+        LoadRoom {
+            words: std::array::from_fn(|table| vec![LEFT_WORD; words(table)]),
+            numbers: vec![LEFT_NUMBER; lent[NUMBERS] + BEHIND],
+            out: [u64::MAX; 7],
+        }
+    }
+}
+
+/// One load as it comes, for timing.
+pub fn raw_load(bundle: &[u8], lent: &Lent, room: &mut LoadRoom) -> u64 {
+    assert!((0..6).all(|table| table == NUMBERS || lent[table] <= room.words[table].len()));
+    assert!(lent[NUMBERS] <= room.numbers.len());
+    let [rules, selectors, tests, properties, _, colors] = &mut room.words;
+    unsafe {
+        mapcss_load(
+            bundle.as_ptr(),
+            bundle.len(),
+            rules.as_mut_ptr(),
+            lent[0],
+            selectors.as_mut_ptr(),
+            lent[1],
+            tests.as_mut_ptr(),
+            lent[2],
+            properties.as_mut_ptr(),
+            lent[3],
+            room.numbers.as_mut_ptr(),
+            lent[4],
+            colors.as_mut_ptr(),
+            lent[5],
+            room.out.as_mut_ptr(),
+            6,
+        )
+    }
+}
+
+/// The entries or the refusal; or what the call did wrong with the memory lent.
+pub fn load(bundle: &[u8], lent: &Lent) -> Result<Filled, String> {
+    let mut room = LoadRoom::new(lent);
+    let number = raw_load(bundle, lent, &mut room);
+    let out = room.out;
+    let behind = |table: usize| {
+        if table == NUMBERS {
+            room.numbers[lent[table]..].iter().all(|&x| x == LEFT_NUMBER)
+        } else {
+            room.words[table][lent[table]..].iter().all(|&word| word == LEFT_WORD)
+        }
+    };
+    // every element from here on
+    let zero = |table: usize, from: usize| {
+        if table == NUMBERS {
+            room.numbers[from..lent[table]].iter().all(|x| x.to_bits() == 0)
+        } else {
+            room.words[table][from..lent[table]].iter().all(|&word| word == 0)
+        }
+    };
+    if out[6] != u64::MAX || !(0..6).all(behind) {
+        return Err("wrote behind what was lent".to_string());
+    }
+    if number != 0 {
+        if out[0] != number || out[5] != 0 {
+            return Err(format!("answered {number} with {out:?}"));
+        }
+        if let Some(table) = (0..6).find(|&table| !zero(table, 0)) {
+            return Err(format!("refused with {:?}, but table {table} is not zero", &out[..5]));
+        }
+        return Ok(Err(out[..5].try_into().unwrap()));
+    }
+    let mut tables = Tables::default();
+    for table in 0..6 {
+        let count = usize::try_from(out[table]).unwrap_or(usize::MAX);
+        let end = count.saturating_mul(stride(table));
+        if end > lent[table] {
+            return Err(format!("counts {:?} with {lent:?} lent", &out[..6]));
+        }
+        if !zero(table, end) {
+            return Err(format!("table {table} is not zero behind {count} entries"));
+        }
+        if table == NUMBERS {
+            tables.numbers = room.numbers[..end].iter().map(|&x| bits(x)).collect();
+        } else {
+            tables.entries[table] = room.words[table][..end].chunks(8).map(|c| c.try_into().unwrap()).collect();
+        }
+    }
+    Ok(Ok(tables))
 }

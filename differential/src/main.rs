@@ -1,9 +1,14 @@
 //! Runs the original and our engine on the same inputs and compares. README.md says how.
 
 mod bench;
+mod bundles;
 mod cases;
 #[cfg(feature = "rattle")]
 mod ffi;
+mod load_cases;
+mod load_run;
+mod loads;
+mod model;
 mod random;
 mod run;
 mod sample;
@@ -20,14 +25,22 @@ include!(concat!(env!("OUT_DIR"), "/original.rs"));
 use std::path::PathBuf;
 use std::process::ExitCode;
 
-const USAGE: &str = "differential run SEED COUNT | sample DIRECTORY SEED COUNT | bench | sheets";
+const USAGE: &str = "differential run SEED COUNT [tokens|loads] | sample DIRECTORY SEED COUNT | bench | sheets";
+
+/// One load for so many texts of the tokenizer's run.
+const TEXTS_A_LOAD: u64 = 10;
 
 fn main() -> ExitCode {
     let args: Vec<String> = std::env::args().skip(1).collect();
     let args: Vec<&str> = args.iter().map(String::as_str).collect();
     let number = |text: &str| text.parse::<u64>().unwrap_or_else(|_| panic!("{text} is no number"));
     let good = match args[..] {
-        ["run", seed, count] => run::run(number(seed), number(count)),
+        ["run", seed, count] => {
+            let tokens = run::run(number(seed), number(count));
+            load_run::run(number(seed), number(count) / TEXTS_A_LOAD) && tokens
+        }
+        ["run", seed, count, "tokens"] => run::run(number(seed), number(count)),
+        ["run", seed, count, "loads"] => load_run::run(number(seed), number(count) / TEXTS_A_LOAD),
         ["sample", directory, seed, count] => sample::write(&PathBuf::from(directory), number(seed), number(count)),
         ["bench"] => bench::bench(),
         ["sheets"] => sheets::check(),

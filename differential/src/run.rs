@@ -6,7 +6,7 @@ use crate::sheets;
 use crate::tokens::{self, Counts};
 
 /// Differing cases that are printed.
-const SHOWN: u64 = 10;
+pub const SHOWN: u64 = 10;
 
 #[derive(Default)]
 struct Run {
@@ -35,7 +35,7 @@ fn difference(text: &str) -> Option<String> {
 }
 
 /// The text with characters left out, as long as it still differs.
-fn shrunk(text: &str, differs: &impl Fn(&str) -> bool) -> String {
+pub fn shrunk(text: &str, differs: &impl Fn(&str) -> bool) -> String {
     let mut chars: Vec<char> = text.chars().collect();
     let mut length = chars.len() / 2;
     while length > 0 {
