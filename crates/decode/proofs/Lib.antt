@@ -1,0 +1,5 @@
+pub mod Drawn
+pub mod Entries
+pub mod Begun
+pub mod Spelling
+pub mod Spells

@@ -1,0 +1,163 @@
+-- What holds of every load, from the grammar's theorems on the reader.
+use Prim.Native.Nat.{ℕ, _<_}
+use native.Mathlib.Omega.{arith}
+use mathlib.Core.Path.{_≡_, refl, sym, ap, _∙_}
+use mathlib.Core.Bool.{Bool, true, false}
+use mathlib.Core.List.{List}
+use lib.Dec.{ltb}
+use lib.ListN.{length}
+use borrow.Author.Tests.{ltb-true, ltb-false}
+use Rattle.base.specs.Bytes.{Bytes}
+use Rattle.base.specs.Choice.{by-test, if-false, clash}
+use Rattle.base.specs.Refusal.{refusal}
+use Rattle.base.specs.declared.refusal.Refusal.{Refusal}
+use Rattle.bundle.proofs.Check.{bundle-long}
+use Rattle.bundle.specs.Bundle.{isBundle, checkOf}
+use Rattle.bundle.specs.Elim.{on-Checked}
+use Rattle.bundle.specs.declared.Checked.{Checked}
+use Rattle.bundle.specs.declared.Checked.the-variants.{BadBundle, Texts}
+use Rattle.grammar.specs.Accepted.{loadInto}
+use Rattle.grammar.specs.AcceptedProof.{accepted, accepts, one-reading}
+use Rattle.grammar.specs.Capacity.{Tables, tablesOf}
+use Rattle.grammar.specs.Input.{Answer, refused, read}
+use Rattle.grammar.specs.Reading.{Reading}
+use Rattle.input.proofs.Fuel.{fueled}
+use Rattle.input.specs.Encode.{Lengths, capacities, tallyOf, lentOf}
+use Rattle.input.specs.Lent.{lentStore}
+use Rattle.input.specs.Source.{Spot, reading}
+use Rattle.parser.specs.Load.{Held, zeros, heldIn, countsOf, sheetAt, loaded, loadOf}
+use Rattle.parser.specs.declared.Counts.{Counts}
+use Rattle.parser.specs.declared.Loaded.{Loaded}
+use Rattle.parser.specs.declared.Loaded.the-variants.{NotLoaded, Sheet}
+use Rattle.decode.proofs.Drawn.{reading-drawn}
+use Rattle.decode.proofs.Spells.{filled-spell}
+use Rattle.decode.specs.Decode.{rulesAt}
+use Rattle.sheet.specs.Sheet.{Rule, Value}
+use Rattle.sound.proofs.Drawn.{reading-lies}
+use Rattle.sound.proofs.Passing.{tables-pass}
+use Rattle.valid.specs.Valid.{tablesSound}
+use Rattle.mapcss.specs.Loads.{countsFor, tablesFor, spelledBy, fiveOf, Loads, Sound, Spelled, Complete, OneReading, RefusalZeroes, NeverBroken}
+
+different : {A : Type 0} → _≡_ {A = Bool} true false → A
+different z = clash {b = true} refl z
+
+read-loads :
+    (bundle : Bytes) (l : Lengths) (n : Counts) (h : Held) (texts : ℕ)
+    → checkOf bundle ≡ Texts texts
+    → (a : Answer Reading Spot Tables Refusal)
+    → loadInto (reading bundle) (capacities l) (sheetAt bundle) ≡ a
+    → loaded l a ≡ (Sheet n, h)
+    → Loads bundle l n h
+unfolding loaded
+read-loads bundle l n h texts c (refused e υ) q w =
+    let z : NotLoaded e ≡ Sheet n = ap (λ (x : Loaded × Held). x .0) w in
+    different cc
+read-loads bundle l n h texts c (read js f υ) q w =
+    let a = accepted (reading bundle) (capacities l) (sheetAt bundle) f js υ q in
+    let u : υ ≡ tablesOf js = a .1 .1 in
+    let z : Sheet (countsOf (tallyOf υ)) ≡ Sheet n = ap (λ (x : Loaded × Held). x .0) w in
+    let v : countsOf (tallyOf υ) ≡ n = cc in
+    record {
+      texts = texts;
+      checked = c;
+      js = js;
+      is-sheet = a .0;
+      fits = a .1 .0;
+      counted = sym v ∙ ap (λ (υ : Tables). countsOf (tallyOf υ)) u;
+      tables = sym (ap (λ (x : Loaded × Held). x .1) w) ∙ ap (λ (υ : Tables). heldIn (lentOf l υ)) u;
+    }
+
+pub sound : Sound
+unfolding loadOf on-Checked
+sound bundle l n h e = go (checkOf bundle) refl e
+  where
+    go :
+        (x : Checked)
+        → checkOf bundle ≡ x
+        → on-Checked x (λ e. (NotLoaded e, zeros l)) (λ count. loaded l (loadInto (reading bundle) (capacities l) (sheetAt bundle))) ≡ (Sheet n, h)
+        → Loads bundle l n h
+    go (BadBundle y) q w =
+        let z : NotLoaded y ≡ Sheet n = ap (λ (x : Loaded × Held). x .0) w in
+        different cc
+    go (Texts k) q w = read-loads bundle l n h k q _ refl w
+
+pub complete : Complete
+unfolding loadOf on-Checked loaded
+complete bundle l texts js c r b =
+    let a = accepts (reading bundle) (fueled bundle (lentStore bundle)) (capacities l) (sheetAt bundle) js r b in
+    ap (λ x. on-Checked x (λ e. (NotLoaded e, zeros l)) (λ count. loaded l (loadInto (reading bundle) (capacities l) (sheetAt bundle)))) c
+    ∙ ap (loaded l) (a .1)
+
+pub one-reading-each : OneReading
+one-reading-each bundle js ks a b = one-reading (reading bundle) (fueled bundle (lentStore bundle)) (sheetAt bundle) js ks a b
+
+refused-zero :
+    (l : Lengths) (e : Refusal) (h : Held) (a : Answer Reading Spot Tables Refusal)
+    → loaded l a ≡ (NotLoaded e, h)
+    → h ≡ zeros l
+unfolding loaded
+refused-zero l e h (refused x υ) w = sym (ap (λ (x : Loaded × Held). x .1) w)
+refused-zero l e h (read js f υ) w =
+    let z : Sheet (countsOf (tallyOf υ)) ≡ NotLoaded e = ap (λ (x : Loaded × Held). x .0) w in
+    different cc
+
+pub refusal-zeroes : RefusalZeroes
+unfolding loadOf on-Checked
+refusal-zeroes bundle l e h w = go (checkOf bundle) w
+  where
+    go :
+        (x : Checked)
+        → on-Checked x (λ e. (NotLoaded e, zeros l)) (λ count. loaded l (loadInto (reading bundle) (capacities l) (sheetAt bundle))) ≡ (NotLoaded e, h)
+        → h ≡ zeros l
+    go (BadBundle y) w = sym (ap (λ (x : Loaded × Held). x .1) w)
+    go (Texts k) w = refused-zero l e h (loadInto (reading bundle) (capacities l) (sheetAt bundle)) w
+
+-- ---- never 22
+
+no-layout : (bundle : Bytes) → false ≡ isBundle bundle → BadBundle (refusal 1 0 0 0 0) ≡ checkOf bundle
+unfolding checkOf
+no-layout bundle e = if-false (isBundle bundle) _ _ (sym e) refl
+
+short-bundle : (bundle : Bytes) {count : ℕ} → checkOf bundle ≡ Texts count → length bundle < 4294967296
+short-bundle bundle e =
+    by-test (ltb 1048576 (length bundle))
+    (λ y. let w = no-layout bundle (bundle-long bundle (ltb-true 1048576 (length bundle) y)) ∙ e in different cc)
+    (λ n. let h = ltb-false 1048576 (length bundle) n in omega arith)
+
+same-tables :
+    (b : ℕ) {n n′ : Counts} {h h′ : Held}
+    → n ≡ n′
+    → h ≡ h′
+    → tablesSound (h′ .rules) (h′ .selectors) (h′ .tests) (h′ .properties) (h′ .numbers) (fiveOf n′) b ≡ true
+    → tablesSound (h .rules) (h .selectors) (h .tests) (h .properties) (h .numbers) (fiveOf n) b ≡ true
+same-tables b e f q = rw (e, f) q
+
+pub never-broken : NeverBroken
+never-broken bundle l n h e =
+    let s = sound bundle l n h e in
+    same-tables (length bundle) (s .counted) (s .tables)
+    (tables-pass (length bundle) (short-bundle bundle (s .checked)) l (s .js) (s .fits) (reading-lies bundle (lentStore bundle) (sheetAt bundle) (s .js) (s .is-sheet)))
+
+-- ---- the rules
+
+same-rules :
+    (bundle : Bytes) {n n′ : Counts} {h h′ : Held} {rs : List (Rule Value)}
+    → n ≡ n′
+    → h ≡ h′
+    → spelledBy bundle n′ h′ ≡ rs
+    → spelledBy bundle n h ≡ rs
+same-rules bundle e f q = rw (e, f) q
+
+-- of the counts only that of the rules is read
+counted-rules :
+    (bundle : Bytes) (l : Lengths) (js : Reading)
+    → spelledBy bundle (countsFor js) (tablesFor l js) ≡ rulesAt bundle (lentOf l (tablesOf js))
+unfolding rulesAt
+counted-rules bundle l js = refl
+
+pub rules-spelled : Spelled
+rules-spelled bundle l n h s =
+    same-rules bundle (s .counted) (s .tables)
+    (counted-rules bundle l (s .js)
+    ∙ filled-spell bundle (short-bundle bundle (s .checked)) l (s .js) (s .fits)
+    (reading-drawn bundle (lentStore bundle) (sheetAt bundle) (s .js) (s .is-sheet)))
