@@ -1,6 +1,6 @@
 -- A choice by a test, and the laws by which a return follows a definition down its cases.
 use mathlib.Core.Path.{_≡_, refl, sym, ap, _∙_, subst}
-use mathlib.Core.Bool.{Bool, true, false, _&&_, _||_, not}
+use mathlib.Core.Bool.{Bool, true, false, _&&_, _||_}
 use lib.Dec.{T}
 
 unfoldable pub pick : {A : Type 0} → Bool → A → A → A
@@ -32,6 +32,9 @@ by-test false f g = g refl
 
 pub clash : {A : Type 0} {b : Bool} → b ≡ true → b ≡ false → A
 clash p q = absurd (subst T (sym p ∙ q) tt)
+
+pub different : {A : Type 0} → _≡_ {A = Bool} true false → A
+different e = clash {b = true} refl e
 
 pub holds : (b : Bool) → T b → b ≡ true
 holds b t = by-test b (λ e. e) (λ e. absurd (subst T e t))

@@ -2,10 +2,11 @@
 use Prim.Native.Nat.{ℕ, _+_}
 use native.Mathlib.Omega.{arith}
 use mathlib.Core.Path.{_≡_, refl, sym, _∙_, subst}
-use mathlib.Core.Bool.{Bool, true, false, cond}
+use mathlib.Core.Bool.{Bool}
 use mathlib.Core.List.{List}
 use lib.Ieee.{Float}
 use Rattle.base.specs.Bytes.{Bytes}
+use Rattle.base.specs.Choice.{different}
 use Rattle.color.specs.declared.Color.{Color}
 use Rattle.grammar.specs.Token.{Name, Token}
 use Rattle.grammar.specs.Reading.{Reading, Colors}
@@ -96,7 +97,7 @@ module _ {A C T U R : Type 0} {Rel : T → U → Type 0} where
       let q : d ≡ c = cc in
       let r : φ ≡ τ = cc in
       (υ, (rw (p, q), subst (λ τ. Rel τ υ) r s))
-  read-right {x = x} {c = c} {τ = τ} (bothRefused s) e = let z : _≡_ {A = Bool} true false = cc in absurd (subst (λ b. cond b Unit ⊥) z tt)
+  read-right {x = x} {c = c} {τ = τ} (bothRefused s) e = different cc
 
   read-left :
       {a : Answer A C T R} {b : Answer A C U R} {x : A} {c : C} {υ : U}
@@ -108,7 +109,7 @@ module _ {A C T U R : Type 0} {Rel : T → U → Type 0} where
       let q : d ≡ c = cc in
       let r : φ ≡ υ = cc in
       (τ, (rw (p, q), subst (λ υ. Rel τ υ) r s))
-  read-left {x = x} {c = c} {υ = υ} (bothRefused s) e = let z : _≡_ {A = Bool} true false = cc in absurd (subst (λ b. cond b Unit ⊥) z tt)
+  read-left {x = x} {c = c} {υ = υ} (bothRefused s) e = different cc
 
 module _ {C T P R : Type 0} (i : Input C T P R) (Genuine : Name → Type 0) (Small : Color → Type 0)
     (Rel : T → Tables → Type 0) (capacity : ℕ → ℕ) where

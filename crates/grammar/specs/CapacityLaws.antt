@@ -9,7 +9,7 @@ use lib.ListN.{length}
 use lib.Dec.{eqb}
 use borrow.Author.Tests.{eqb-true, leb-true, leb-false, le-leb}
 use Rattle.base.specs.Bytes.{same}
-use Rattle.base.specs.Choice.{by-test, clash}
+use Rattle.base.specs.Choice.{by-test, different}
 use Rattle.color.specs.declared.Color.{Color}
 use Rattle.grammar.specs.Token.{Name, Token}
 use Rattle.grammar.specs.Reading.{Reading, Colors, define, colorNamed}
@@ -173,7 +173,7 @@ module _ (capacity : ℕ → ℕ) where
   redefined-room n c x τ f e = le-leb (length (define (τ .colors) n c)) (capacity 6) (rw (redefined (τ .colors) e) (f 6))
     where
       redefined : (Γ : Colors) → colorNamed n Γ ≡ some x → length (define Γ n c) ≡ length Γ
-      redefined [] q = let z : _≡_ {A = Bool} true false = cc in clash {b = true} refl z
+      redefined [] q = different cc
       redefined (d ∷ Γ) q = by-test (same (n .bytes) (d .name .bytes)) (λ p. rw p refl) (λ p. rw p (ap suc (redefined Γ (rw p at q))))
 
   module _ {C P R : Type 0} (i : Input C Tables P R) (law : i .store ≡ limited capacity) where
@@ -191,7 +191,7 @@ module _ (capacity : ℕ → ℕ) where
         (r, p))
         (λ r.
         let q : _≡_ {A = Option Tables} none (some υ) = rw r at (sym (put-is e τ) ∙ m) in
-        let z : _≡_ {A = Bool} true false = cc in clash {b = true} refl z)
+        different cc)
 
     tinted : (e : Entry) (τ υ : Tables) → i .store .put e τ ≡ some υ → i .store .colors υ ≡ tint (i .store .colors τ) e
     tinted e τ υ m = shown υ ∙ ap (λ υ. υ .colors) (sym (put-added e τ υ m .1)) ∙ add-tints e τ ∙ ap (λ Γ. tint Γ e) (sym (shown τ))

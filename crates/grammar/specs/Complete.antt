@@ -3,12 +3,12 @@ use Prim.Native.Nat.{ℕ, zero, suc, _+_, _≤_, _<_}
 use native.Mathlib.Omega.{arith}
 use lib.ListN.{length, length-append}
 use mathlib.Core.Path.{_≡_, refl, sym, _∙_, ap, subst}
-use mathlib.Core.Bool.{Bool, true, false, cond}
+use mathlib.Core.Bool.{Bool, true, false}
 use mathlib.Core.List.{List, [], _∷_, _++_, append-assoc}
 use mathlib.Core.Option.{Option, none, some}
 use lib.Ieee.{Float}
 use Rattle.base.specs.Bytes.{Bytes, ascii, same}
-use Rattle.base.specs.Choice.{by-test}
+use Rattle.base.specs.Choice.{by-test, different}
 use Rattle.base.proofs.Compare.{same-true, same-refl}
 use Rattle.sheet.specs.Sheet.{ObjectType, TextTest, NumericTest}
 use Rattle.grammar.specs.Token.{Name, Sign, Token, identifier, number, sign, leftBrace, rightBracket, bang, colon, semiColon, comma}
@@ -49,7 +49,7 @@ not-colors a y e =
     (λ z. z)
   where
     none-some : {x : ObjectType} {A : Type 0} → none ≡ some x → A
-    none-some q = let z : _≡_ {A = Bool} true false = cc in absurd (subst (λ b. cond b Unit ⊥) z tt)
+    none-some q = different cc
 
 module _ {C T P R : Type 0} (i : Input C T P R) where
   -- the only token, the only entry

@@ -5,6 +5,7 @@ use mathlib.Core.Bool.{Bool, true, false, cond}
 use mathlib.Core.List.{List, [], _∷_, _++_}
 use mathlib.Core.Option.{Option, none, some}
 use lib.Ieee.{Float}
+use Rattle.base.specs.Choice.{different}
 use Rattle.color.specs.declared.Color.{Color}
 use Rattle.grammar.specs.Token.{Name, Sign, Token, import, identifier, string, colorRef, number, zoomRange, color, sign}
 use Rattle.grammar.specs.View.{isSign, on-sign, on-import, on-identifier, on-string, on-colorRef, on-number, on-zoomRange, on-color}
@@ -74,7 +75,7 @@ module _ {A C T R : Type 0} (S : A → C → T → Type 0) where
   Sound a = (x : A) (d : C) (υ : T) → a ≡ read x d υ → S x d υ
 
   pub refused-sound : (r : R) (τ : T) → Sound (refused r τ)
-  refused-sound r τ x d υ e = let z : _≡_ {A = Bool} true false = cc in absurd (subst (λ b. cond b Unit ⊥) z tt)
+  refused-sound r τ x d υ e = different cc
 
   pub read-sound : {x : A} {d : C} {υ : T} → S x d υ → Sound (read x d υ)
   read-sound {x} {d} {υ} h y e φ q =

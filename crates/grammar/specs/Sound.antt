@@ -1,12 +1,12 @@
 -- What the reader accepts: it is a phrase of the grammar, and its entries are in the tables, in order.
 use Prim.Native.Nat.{ℕ, zero, suc}
 use mathlib.Core.Path.{_≡_, refl, sym, _∙_, ap, subst}
-use mathlib.Core.Bool.{Bool, true, false, cond}
+use mathlib.Core.Bool.{Bool, true, false}
 use mathlib.Core.List.{List, [], _∷_, _++_, append-assoc}
 use mathlib.Core.Option.{Option, none, some}
 use lib.Ieee.{Float}
 use Rattle.base.specs.Bytes.{Bytes, ascii, same}
-use Rattle.base.specs.Choice.{clash}
+use Rattle.base.specs.Choice.{clash, different}
 use Rattle.base.proofs.Compare.{same-true}
 use Rattle.color.specs.declared.Color.{Color}
 use Rattle.sheet.specs.Sheet.{ObjectType, TextTest, NumericTest}
@@ -28,7 +28,7 @@ module _ {B : Type 0} (P : B → Type 0) where
   Tells o = (x : B) → o ≡ some x → P x
 
   none-tells : Tells none
-  none-tells x e = let z : _≡_ {A = Bool} true false = cc in absurd (subst (λ b. cond b Unit ⊥) z tt)
+  none-tells x e = different cc
 
   some-tells : {x : B} → P x → Tells (some x)
   some-tells {x} h y e = let q : x ≡ y = cc in subst P q h

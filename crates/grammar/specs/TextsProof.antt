@@ -9,7 +9,7 @@ use lib.ListN.{length}
 use lib.Ieee.{Float}
 use Rattle.base.specs.Map.{lookup}
 use Rattle.base.specs.Bytes.{Bytes, same}
-use Rattle.base.specs.Choice.{by-test, clash, and-left, and-right}
+use Rattle.base.specs.Choice.{by-test, clash, and-left, and-right, different}
 use Rattle.grammar.specs.Token.{Token}
 use Rattle.grammar.specs.Reading.{Reading}
 use Rattle.grammar.specs.Input.{Entry, Reason, Input, token, end, Answer, refused, read}
@@ -22,9 +22,6 @@ use Rattle.grammar.specs.Complete.{load-complete}
 use Rattle.grammar.specs.CapacityLaws.{add-tints}
 use Rattle.grammar.specs.AcceptedProof.{retold}
 use Rattle.grammar.specs.Texts.{Bundle, Place, Cursor, cursor, nextFrom, textNamed, listed, readBundle, HasReading, isRead, accepts, HasAll, HasNone}
-
-no-way : {A : Type 0} → _≡_ {A = Bool} true false → A
-no-way z = clash {b = true} refl z
 
 module _ (countable : Float → Bool) (b : Bundle) where
   abbrev i : Input Cursor Tables Place (Reason × Place)
@@ -43,7 +40,7 @@ module _ (countable : Float → Bool) (b : Bundle) where
       (k n : ℕ) (s : List Token) (d : Cursor) (o : Place) (t : Token)
       → nextFrom {R = Reason × Place} k n s ≡ token t o d
       → s ≡ t ∷ d .left
-  given-cons k n [] d o t e = let z : _≡_ {A = Bool} true false = cc in no-way z
+  given-cons k n [] d o t e = different cc
   given-cons k n (x ∷ s) d o t e =
       let p : x ≡ t = cc in
       let q : cursor k (suc (suc n)) s ≡ d = cc in
@@ -51,7 +48,7 @@ module _ (countable : Float → Bool) (b : Bundle) where
 
   given-end : (k n : ℕ) (s : List Token) (f : Cursor) → nextFrom {R = Reason × Place} k n s ≡ end f → s ≡ []
   given-end k n [] f e = refl
-  given-end k n (x ∷ s) f e = let z : _≡_ {A = Bool} true false = cc in no-way z
+  given-end k n (x ∷ s) f e = different cc
 
   given-is : {c d : Cursor} {p : List Token} → Gives i c p d → c .left ≡ p ++ d .left
   given-is here = refl
@@ -78,7 +75,7 @@ module _ (countable : Float → Bool) (b : Bundle) where
 
   named-is : (k : ℕ) (n : Bytes) (e : Bundle) (c : Cursor) → textNamed k n e ≡ some c → lookup n e ≡ some (c .left)
   unfolding textNamed lookup
-  named-is k n [] c q = let z : _≡_ {A = Bool} true false = cc in no-way z
+  named-is k n [] c q = different cc
   named-is k n (t ∷ e) c q = by-test (same n (t .key))
       (λ p. let r : some (cursor k 0 (t .value)) ≡ some c = rw p at q in
       let u : cursor k 0 (t .value) ≡ c = cc in
@@ -87,7 +84,7 @@ module _ (countable : Float → Bool) (b : Bundle) where
 
   is-named : (k : ℕ) (n : Bytes) (e : Bundle) (q : List Token) → lookup n e ≡ some q → (m : ℕ) × (textNamed k n e ≡ some (cursor m 0 q))
   unfolding textNamed lookup
-  is-named k n [] q h = let z : _≡_ {A = Bool} true false = cc in no-way z
+  is-named k n [] q h = different cc
   is-named k n (t ∷ e) q h = by-test (same n (t .key))
       (λ p. let r : some (t .value) ≡ some q = rw p at h in
       let u : t .value ≡ q = cc in

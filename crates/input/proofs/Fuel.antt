@@ -2,11 +2,10 @@
 use Prim.Native.Nat.{ℕ, suc, _<_}
 use native.Mathlib.Omega.{arith}
 use mathlib.Core.Path.{_≡_, refl, subst}
-use mathlib.Core.Bool.{Bool, true, false}
 use mathlib.Core.List.{List}
 use lib.ListN.{length}
 use Rattle.base.specs.Bytes.{Bytes}
-use Rattle.base.specs.Choice.{clash}
+use Rattle.base.specs.Choice.{different}
 use Rattle.base.specs.Refusal.{refusal}
 use Rattle.cursor.specs.declared.Cursor.{Cursor}
 use Rattle.token.specs.Elim.{on-Step}
@@ -37,8 +36,8 @@ module _ (bundle : Bytes) where
           → stepOf (textOf bundle s) c ≡ x
           → on-Step x Wrong End (λ t line character d. Took (placed (s .range .from) t) line character d) ≡ Took t line character d
           → left bundle s d < left bundle s c
-      go (Wrong r l k) q e = let z : _≡_ {A = Bool} true false = cc in clash {b = true} refl z
-      go (End f) q e = let z : _≡_ {A = Bool} true false = cc in clash {b = true} refl z
+      go (Wrong r l k) q e = different cc
+      go (End f) q e = different cc
       go (Took u l k f) q e =
           let p : f ≡ d = cc in
           let w = steps-consume (textOf bundle s) c d u l k (subst (λ f. stepOf (textOf bundle s) c ≡ Took u l k f) p q) in
@@ -63,8 +62,8 @@ module _ (bundle : Bytes) where
           (λ t line character d. Got t (place (s .number) line character) d)
           ≡ Got t o d
           → left bundle s d < left bundle s c
-      go (Wrong r l k) q e = let z : _≡_ {A = Bool} true false = cc in clash {b = true} refl z
-      go (End f) q e = let z : _≡_ {A = Bool} true false = cc in clash {b = true} refl z
+      go (Wrong r l k) q e = different cc
+      go (End f) q e = different cc
       go (Took u l k f) q e =
           let p : f ≡ d = cc in
           next-moves s c d u l k (subst (λ f. nextOf bundle s c ≡ Took u l k f) p q)
@@ -86,8 +85,8 @@ module _ (bundle : Bytes) where
           (λ t line character d. token (tokenOf bundle t) (place (p .source .number) line character) (spot (p .source) d))
           ≡ token t o q
           → left bundle (q .source) (q .cursor) < left bundle (p .source) (p .cursor)
-      go (Wrong r l k) h e = let z : _≡_ {A = Bool} true false = cc in clash {b = true} refl z
-      go (End f) h e = let z : _≡_ {A = Bool} true false = cc in clash {b = true} refl z
+      go (Wrong r l k) h e = different cc
+      go (End f) h e = different cc
       go (Took u l k f) h e =
           let m : spot (p .source) f ≡ q = cc in
           subst (λ q. left bundle (q .source) (q .cursor) < left bundle (p .source) (p .cursor)) m

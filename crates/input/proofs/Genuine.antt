@@ -2,11 +2,10 @@
 use Prim.Native.Nat.{ℕ, _+_, _-_, _<_, _≤_}
 use native.Mathlib.Omega.{arith}
 use mathlib.Core.Path.{_≡_, refl, subst}
-use mathlib.Core.Bool.{Bool, true, false}
 use mathlib.Core.List.{[], _∷_}
 use lib.ListN.{length, drop, length-take, length-drop}
 use Rattle.base.specs.Bytes.{Bytes, within}
-use Rattle.base.specs.Choice.{clash}
+use Rattle.base.specs.Choice.{different}
 use Rattle.base.specs.Refusal.{refusal}
 use Rattle.base.specs.declared.Range.{Range}
 use Rattle.color.specs.declared.Color.{Color as Rgb}
@@ -143,8 +142,8 @@ module _ (bundle : Bytes) where
           (λ t line character d. token (tokenOf bundle t) (place (s .number) line character) (spot s d))
           ≡ token t o q
           → Holds t
-      go (Wrong r l k) h e = let z : _≡_ {A = Bool} true false = cc in clash {b = true} refl z
-      go (End f) h e = let z : _≡_ {A = Bool} true false = cc in clash {b = true} refl z
+      go (Wrong r l k) h e = different cc
+      go (End f) h e = different cc
       go (Took u l k f) h e =
           let p : tokenOf bundle (placed (s .range .from) u) ≡ t = cc in
           let w = steps-consume (textOf bundle s) c f u l k h in

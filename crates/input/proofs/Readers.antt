@@ -1,11 +1,11 @@
 -- The small readers answer as the grammar's reader goes on, whatever the tables are; and each takes a byte at least.
-use Prim.Native.Nat.{ℕ, _<_}
+use Prim.Native.Nat.{_<_}
 use native.Mathlib.Omega.{arith}
 use mathlib.Core.Path.{_≡_, refl, subst, _∙_}
 use mathlib.Core.Bool.{Bool, true, false, cond}
 use lib.Ieee.{Float}
 use Rattle.base.specs.Bytes.{Bytes}
-use Rattle.base.specs.Choice.{clash}
+use Rattle.base.specs.Choice.{different}
 use Rattle.base.specs.Refusal.{refusal}
 use Rattle.base.specs.declared.Range.{Range}
 use Rattle.base.specs.declared.refusal.Refusal.{Refusal}
@@ -53,13 +53,10 @@ use Rattle.input.specs.Source.{Spot, spot, nextAt, inputOf}
 use Rattle.input.specs.Text.{nextOf, nameIn, nameOf, rangeOf, tokenOf, place, refusalAt, reachedAt, left, mandatoryOf, expectOf, wordOf, figureOf, joinedOf, keyOf}
 use Rattle.input.specs.declared.Mandatory.{Mandatory}
 use Rattle.input.specs.declared.Mandatory.the-variants.{NoToken, Got}
-use Rattle.input.specs.declared.Past.{Past}
 use Rattle.input.specs.declared.Past.the-variants.{Another, Beyond}
 use Rattle.input.specs.declared.Word.{Word}
 use Rattle.input.specs.declared.Word.the-variants.{NoWord, IsWord}
-use Rattle.input.specs.declared.Key.{Key}
 use Rattle.input.specs.declared.Key.the-variants.{NoKey, IsKey}
-use Rattle.input.specs.declared.Figure.{Figure}
 use Rattle.input.specs.declared.Figure.the-variants.{NoFigure, IsFigure}
 use Rattle.input.specs.declared.Place.{Place}
 use Rattle.input.specs.declared.Source.{Source}
@@ -276,14 +273,14 @@ module _ (bundle : Bytes) (s : Source) where
           → cond b (Beyond f) (Another (refusalAt 4 4 o)) ≡ Beyond d
           → left bundle s d < left bundle s c
       by-sign true t o f q e = let p : f ≡ d = cc in mandatory-moves bundle s c d t o (subst (λ f. mandatoryOf bundle s c ≡ Got t o f) p q)
-      by-sign false t o f q e = let z : _≡_ {A = Bool} true false = cc in clash {b = true} refl z
+      by-sign false t o f q e = different cc
 
       go :
           (m : Mandatory)
           → mandatoryOf bundle s c ≡ m
           → on-Mandatory m Another (λ t o d. cond (isSign g (tokenOf bundle t)) (Beyond d) (Another (refusalAt 4 4 o))) ≡ Beyond d
           → left bundle s d < left bundle s c
-      go (NoToken x) q e = let z : _≡_ {A = Bool} true false = cc in clash {b = true} refl z
+      go (NoToken x) q e = different cc
       go (Got t o f) q e = by-sign (isSign g (tokenOf bundle t)) t o f q e
 
   pub word-moves : (c d : Cursor) (a : Range) → wordOf bundle s c ≡ IsWord a d → left bundle s d < left bundle s c
@@ -295,23 +292,23 @@ module _ (bundle : Bytes) (s : Source) where
           → mandatoryOf bundle s c ≡ Got t o f
           → on-identifier u (λ a. IsWord (rangeOf a) f) (NoWord (refusalAt 4 3 o)) ≡ IsWord a d
           → left bundle s d < left bundle s c
-      by-token (import x) t o f q e = let z : _≡_ {A = Bool} true false = cc in clash {b = true} refl z
+      by-token (import x) t o f q e = different cc
       by-token (identifier x) t o f q e =
           let p : f ≡ d = cc in
           mandatory-moves bundle s c d t o (subst (λ f. mandatoryOf bundle s c ≡ Got t o f) p q)
-      by-token (string x) t o f q e = let z : _≡_ {A = Bool} true false = cc in clash {b = true} refl z
-      by-token (colorRef x) t o f q e = let z : _≡_ {A = Bool} true false = cc in clash {b = true} refl z
-      by-token (number x) t o f q e = let z : _≡_ {A = Bool} true false = cc in clash {b = true} refl z
-      by-token (zoomRange x y) t o f q e = let z : _≡_ {A = Bool} true false = cc in clash {b = true} refl z
-      by-token (color x) t o f q e = let z : _≡_ {A = Bool} true false = cc in clash {b = true} refl z
-      by-token (sign x) t o f q e = let z : _≡_ {A = Bool} true false = cc in clash {b = true} refl z
+      by-token (string x) t o f q e = different cc
+      by-token (colorRef x) t o f q e = different cc
+      by-token (number x) t o f q e = different cc
+      by-token (zoomRange x y) t o f q e = different cc
+      by-token (color x) t o f q e = different cc
+      by-token (sign x) t o f q e = different cc
 
       go :
           (m : Mandatory)
           → mandatoryOf bundle s c ≡ m
           → on-Mandatory m NoWord (λ t o d. on-identifier (tokenOf bundle t) (λ a. IsWord (rangeOf a) d) (NoWord (refusalAt 4 3 o))) ≡ IsWord a d
           → left bundle s d < left bundle s c
-      go (NoToken x) q e = let z : _≡_ {A = Bool} true false = cc in clash {b = true} refl z
+      go (NoToken x) q e = different cc
       go (Got t o f) q e = by-token (tokenOf bundle t) t o f q e
 
   pub figure-moves : (c d : Cursor) (x : Float) → figureOf bundle s c ≡ IsFigure x d → left bundle s d < left bundle s c
@@ -323,23 +320,23 @@ module _ (bundle : Bytes) (s : Source) where
           → mandatoryOf bundle s c ≡ Got t o f
           → on-number u (λ x. IsFigure x f) (NoFigure (refusalAt 4 3 o)) ≡ IsFigure y d
           → left bundle s d < left bundle s c
-      by-token (import x) t o f q e = let z : _≡_ {A = Bool} true false = cc in clash {b = true} refl z
-      by-token (identifier x) t o f q e = let z : _≡_ {A = Bool} true false = cc in clash {b = true} refl z
-      by-token (string x) t o f q e = let z : _≡_ {A = Bool} true false = cc in clash {b = true} refl z
-      by-token (colorRef x) t o f q e = let z : _≡_ {A = Bool} true false = cc in clash {b = true} refl z
+      by-token (import x) t o f q e = different cc
+      by-token (identifier x) t o f q e = different cc
+      by-token (string x) t o f q e = different cc
+      by-token (colorRef x) t o f q e = different cc
       by-token (number x) t o f q e =
           let p : f ≡ d = cc in
           mandatory-moves bundle s c d t o (subst (λ f. mandatoryOf bundle s c ≡ Got t o f) p q)
-      by-token (zoomRange x z′) t o f q e = let z : _≡_ {A = Bool} true false = cc in clash {b = true} refl z
-      by-token (color x) t o f q e = let z : _≡_ {A = Bool} true false = cc in clash {b = true} refl z
-      by-token (sign x) t o f q e = let z : _≡_ {A = Bool} true false = cc in clash {b = true} refl z
+      by-token (zoomRange x z′) t o f q e = different cc
+      by-token (color x) t o f q e = different cc
+      by-token (sign x) t o f q e = different cc
 
       go :
           (m : Mandatory)
           → mandatoryOf bundle s c ≡ m
           → on-Mandatory m NoFigure (λ t o d. on-number (tokenOf bundle t) (λ x. IsFigure x d) (NoFigure (refusalAt 4 3 o))) ≡ IsFigure y d
           → left bundle s d < left bundle s c
-      go (NoToken x) q e = let z : _≡_ {A = Bool} true false = cc in clash {b = true} refl z
+      go (NoToken x) q e = different cc
       go (Got t o f) q e = by-token (tokenOf bundle t) t o f q e
 
   pub key-moves :
@@ -355,7 +352,7 @@ module _ (bundle : Bytes) (s : Source) where
           → left bundle s f < left bundle s c
           → on-Mandatory m NoKey (λ t o f. IsKey (Joined a b) t o f) ≡ IsKey key t o d
           → left bundle s d < left bundle s c
-      second (NoToken x) b f q h e = let z : _≡_ {A = Bool} true false = cc in clash {b = true} refl z
+      second (NoToken x) b f q h e = different cc
       second (Got u p g) b f q h e =
           let r : g ≡ d = cc in
           let l = mandatory-moves bundle s f d u p (subst (λ g. mandatoryOf bundle s f ≡ Got u p g) r q) in
@@ -367,7 +364,7 @@ module _ (bundle : Bytes) (s : Source) where
           → left bundle s f < left bundle s c
           → on-Word w NoKey (λ b d. on-Mandatory (mandatoryOf bundle s d) NoKey λ t o f. IsKey (Joined a b) t o f) ≡ IsKey key t o d
           → left bundle s d < left bundle s c
-      word (NoWord x) f q h e = let z : _≡_ {A = Bool} true false = cc in clash {b = true} refl z
+      word (NoWord x) f q h e = different cc
       word (IsWord b g) f q h e = let l = word-moves f g b q in second (mandatoryOf bundle s g) b g refl (omega arith) e
 
       by-sign :
@@ -385,5 +382,5 @@ module _ (bundle : Bytes) (s : Source) where
           → mandatoryOf bundle s c ≡ m
           → on-Mandatory m NoKey (λ t o d. cond (isSign colon (tokenOf bundle t)) (joinedOf bundle s a d) (IsKey (Plain a) t o d)) ≡ IsKey key t o d
           → left bundle s d < left bundle s c
-      go (NoToken x) q e = let z : _≡_ {A = Bool} true false = cc in clash {b = true} refl z
+      go (NoToken x) q e = different cc
       go (Got u p f) q e = by-sign (isSign colon (tokenOf bundle u)) u p f q e

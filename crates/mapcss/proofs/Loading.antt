@@ -2,13 +2,13 @@
 use Prim.Native.Nat.{ℕ, _<_}
 use native.Mathlib.Omega.{arith}
 use mathlib.Core.Path.{_≡_, refl, sym, ap, _∙_}
-use mathlib.Core.Bool.{Bool, true, false}
+use mathlib.Core.Bool.{true, false}
 use mathlib.Core.List.{List}
 use lib.Dec.{ltb}
 use lib.ListN.{length}
 use borrow.Author.Tests.{ltb-true, ltb-false}
 use Rattle.base.specs.Bytes.{Bytes}
-use Rattle.base.specs.Choice.{by-test, if-false, clash}
+use Rattle.base.specs.Choice.{by-test, if-false, different}
 use Rattle.base.specs.Refusal.{refusal}
 use Rattle.base.specs.declared.refusal.Refusal.{Refusal}
 use Rattle.bundle.proofs.Check.{bundle-long}
@@ -37,9 +37,6 @@ use Rattle.sound.proofs.Drawn.{reading-lies}
 use Rattle.sound.proofs.Passing.{tables-pass}
 use Rattle.valid.specs.Valid.{tablesSound}
 use Rattle.mapcss.specs.Loads.{countsFor, tablesFor, spelledBy, fiveOf, Loads, Sound, Spelled, Complete, OneReading, RefusalZeroes, NeverBroken}
-
-different : {A : Type 0} → _≡_ {A = Bool} true false → A
-different z = clash {b = true} refl z
 
 read-loads :
     (bundle : Bytes) (l : Lengths) (n : Counts) (h : Held) (texts : ℕ)

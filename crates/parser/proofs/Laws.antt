@@ -8,7 +8,7 @@ use mathlib.Core.List.{List}
 use mathlib.Core.Option.{Option, none, some}
 use lib.Ieee.{Float}
 use Rattle.base.specs.Bytes.{Bytes}
-use Rattle.base.specs.Choice.{clash}
+use Rattle.base.specs.Choice.{different}
 use Rattle.base.specs.declared.Range.{Range}
 use Rattle.base.specs.declared.refusal.Refusal.{Refusal}
 use Rattle.cursor.specs.declared.Cursor.{Cursor}
@@ -18,7 +18,7 @@ use Rattle.table.specs.declared.Name.the-variants.{Plain, Joined}
 use Rattle.grammar.specs.Token.{Name, Sign, Token as Token′}
 use Rattle.grammar.specs.View.{on-number}
 use Rattle.grammar.specs.Reading.{Test}
-use Rattle.grammar.specs.Input.{Entry, testEntry, numberEntry, Answer, refused, read, on-option, after, keep}
+use Rattle.grammar.specs.Input.{testEntry, numberEntry, Answer, refused, read, on-option, after, keep}
 use Rattle.grammar.specs.Reader.{readMandatoryToken, unexpectedToken, expectSimpleToken, readIdentifier, readKey}
 use Rattle.input.specs.Elim.{on-Mandatory, on-Past, on-Word, on-Key, on-Figure, with-Room, on-Room}
 use Rattle.input.specs.Lent.{Lent, lent, nameShown, testRow, keepTestOf, keepNumberOf, taken, putEntry, lentStore}
@@ -29,7 +29,6 @@ use Rattle.input.specs.declared.Past.the-variants.{Another, Beyond}
 use Rattle.input.specs.declared.Word.the-variants.{NoWord, IsWord}
 use Rattle.input.specs.declared.Key.the-variants.{NoKey, IsKey}
 use Rattle.input.specs.declared.Figure.the-variants.{NoFigure, IsFigure}
-use Rattle.input.specs.declared.Room.{Room}
 use Rattle.input.specs.declared.Room.the-variants.{NoRoom, Stored}
 use Rattle.input.specs.declared.Place.{Place}
 use Rattle.input.specs.declared.Source.{Source}
@@ -38,7 +37,6 @@ use Rattle.input.proofs.Fuel.{mandatory-moves}
 use Rattle.input.proofs.Readers.{mandatory-is, expect-is, word-is, figure-is, key-is, expect-moves, word-moves, figure-moves, key-moves}
 use Rattle.parser.specs.Answers.{Reads, refuses, done, Lists, unlisted, lastListed, nextListed}
 use Rattle.parser.specs.declared.Kept.{Kept}
-use Rattle.parser.specs.declared.Kept.the-variants.{Refused, Done}
 use Rattle.parser.specs.declared.Listed.{Listed}
 use Rattle.parser.specs.declared.Listed.the-variants.{Unlisted, LastListed, NextListed}
 
@@ -235,25 +233,25 @@ module _ {A : Type 0} {bundle : Bytes} {s : Source} {bound : ℕ} {K : Spot → 
     where
       go : {r : Listed} {a : Answer A Spot Lent Refusal} → Lists bundle s bound K N r a → r ≡ Unlisted e → ((e′ : Refusal) (τ : Lent) → e ≡ e′ → Q (refused e′ τ)) → Q a
       go (unlisted {e = x} {e′ = y} {τ = τ} p) q k = let z : x ≡ e = cc in k y τ (sym z ∙ p)
-      go (lastListed d p) q k = let z : _≡_ {A = Bool} true false = cc in clash {b = true} refl z
-      go (nextListed x d p) q k = let z : _≡_ {A = Bool} true false = cc in clash {b = true} refl z
+      go (lastListed d p) q k = different cc
+      go (nextListed x d p) q k = different cc
 
   pub list-last : {d : Cursor} → r ≡ LastListed d → (left bundle s d < bound → Q (K (spot s d))) → Q a
   list-last {d} = go h
     where
       go : {r : Listed} {a : Answer A Spot Lent Refusal} → Lists bundle s bound K N r a → r ≡ LastListed d → (left bundle s d < bound → Q (K (spot s d))) → Q a
-      go (unlisted p) q k = let z : _≡_ {A = Bool} true false = cc in clash {b = true} refl z
+      go (unlisted p) q k = different cc
       go (lastListed f p) q k =
           let z : d ≡ f = cc in
           subst (λ f. Q (K (spot s f))) z (k (subst (λ f. left bundle s f < bound) (sym z) p))
-      go (nextListed x f p) q k = let z : _≡_ {A = Bool} true false = cc in clash {b = true} refl z
+      go (nextListed x f p) q k = different cc
 
   pub list-next : {x : Float} {d : Cursor} → r ≡ NextListed x d → (left bundle s d < bound → Q (N x (spot s d))) → Q a
   list-next {x} {d} = go h
     where
       go : {r : Listed} {a : Answer A Spot Lent Refusal} → Lists bundle s bound K N r a → r ≡ NextListed x d → (left bundle s d < bound → Q (N x (spot s d))) → Q a
-      go (unlisted p) q k = let z : _≡_ {A = Bool} true false = cc in clash {b = true} refl z
-      go (lastListed f p) q k = let z : _≡_ {A = Bool} true false = cc in clash {b = true} refl z
+      go (unlisted p) q k = different cc
+      go (lastListed f p) q k = different cc
       go (nextListed y f p) q k =
           let z : d ≡ f = cc in
           let w : x ≡ y = cc in

@@ -2,14 +2,14 @@
 use Prim.Native.Nat.{ℕ, _<_}
 use native.Mathlib.Omega.{arith}
 use mathlib.Core.Path.{_≡_, refl, sym, ap, subst, _∙_}
-use mathlib.Core.Bool.{Bool, true, false}
+use mathlib.Core.Bool.{false}
 use mathlib.Core.List.{List}
 use lib.Dec.{ltb}
 use lib.Ieee.{Float}
 use lib.ListN.{length}
 use borrow.Author.Tests.{ltb-true, ltb-false}
 use Rattle.base.specs.Bytes.{Bytes}
-use Rattle.base.specs.Choice.{by-test, if-false, clash}
+use Rattle.base.specs.Choice.{by-test, if-false, different}
 use Rattle.base.specs.Refusal.{refusal}
 use Rattle.base.specs.declared.Range.{Range}
 use Rattle.base.specs.declared.refusal.Refusal.{Refusal}
@@ -21,12 +21,12 @@ use Rattle.bundle.specs.declared.Checked.the-variants.{BadBundle, Texts}
 use Rattle.grammar.specs.Accepted.{loadInto}
 use Rattle.grammar.specs.Alike.{Alike, bothRefused, bothRead}
 use Rattle.grammar.specs.Capacity.{Tables, empty}
-use Rattle.grammar.specs.Input.{Answer, refused, read}
+use Rattle.grammar.specs.Input.{Answer}
 use Rattle.grammar.specs.Reader.{load}
 use Rattle.grammar.specs.Reading.{Reading}
 use Rattle.input.proofs.Loaded.{loaded-alike}
 use Rattle.input.proofs.Standing.{Written, lent-empty}
-use Rattle.input.specs.Encode.{Lengths, capacities, tallyOf, lentOf}
+use Rattle.input.specs.Encode.{Lengths, capacities, lentOf}
 use Rattle.input.specs.Lent.{Lent, lent, none-yet}
 use Rattle.input.specs.Source.{Spot, source, reading}
 use Rattle.input.specs.declared.Tally.{Tally}
@@ -36,9 +36,6 @@ use Rattle.parser.specs.declared.Loaded.{Loaded}
 use Rattle.parser.specs.declared.Loaded.the-variants.{NotLoaded, Sheet}
 use Rattle.parser.specs.declared.Parsed.{Parsed}
 use Rattle.parser.specs.declared.Parsed.the-variants.{Stopped, Ended}
-
-different : {A : Type 0} → _≡_ {A = Bool} true false → A
-different z = clash {b = true} refl z
 
 -- ---- six tables at once
 

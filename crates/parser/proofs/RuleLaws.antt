@@ -2,12 +2,11 @@
 use Prim.Native.Nat.{ℕ, suc, _<_, _≤_}
 use native.Mathlib.Omega.{arith}
 use mathlib.Core.Path.{_≡_, refl, sym, ap, subst, _∙_}
-use mathlib.Core.Bool.{Bool, true, false, cond}
+use mathlib.Core.Bool.{Bool, false, cond}
 use mathlib.Core.List.{List, [], _∷_}
 use mathlib.Core.Option.{Option, none, some}
-use lib.Ieee.{Float}
-use Rattle.base.specs.Bytes.{Bytes, within}
-use Rattle.base.specs.Choice.{clash}
+use Rattle.base.specs.Bytes.{Bytes}
+use Rattle.base.specs.Choice.{different}
 use Rattle.base.specs.declared.Range.{Range}
 use Rattle.base.specs.declared.refusal.Refusal.{Refusal}
 use Rattle.cursor.specs.declared.Cursor.{Cursor}
@@ -18,9 +17,8 @@ use Rattle.token.specs.declared.Token.{Token}
 use Rattle.token.specs.declared.ZoomLevel.{ZoomLevel}
 use Rattle.token.specs.declared.ZoomLevel.the-variants.{NoLevel, Level}
 use Rattle.grammar.specs.Token.{Token as Token′, leftBrace}
-use Rattle.grammar.specs.View.{on-sign, on-identifier}
 use Rattle.grammar.specs.Reading.{Selector, Rule, Colors, bare, addSelector, withZoom, withTest, withLayer, Test, idToObjectType}
-use Rattle.grammar.specs.Input.{selectorEntry, ruleEntry, objectType, Answer, refused, read, on-option, after, fail, keep}
+use Rattle.grammar.specs.Input.{selectorEntry, ruleEntry, objectType, Answer, refused, read, on-option, after, keep}
 use Rattle.grammar.specs.Reader.{isColors, readMandatoryToken, readParts, readTest, readSelector, readProperties, skipColors, keepRule, readRule}
 use types.Run.{OneOf}
 use denote.Enum.Declared.{tagOf}
@@ -29,7 +27,7 @@ use Rattle.input.proofs.TokenLaws.{others, not-sign, not-identifier}
 use Rattle.parser.proofs.Laws.{no-way}
 use Rattle.parser.specs.Answers.{Reads, refuses, done}
 use Rattle.parser.specs.declared.Kept.{Kept}
-use Rattle.parser.specs.declared.Kept.the-variants.{Refused, Done}
+use Rattle.parser.specs.declared.Kept.the-variants.{Done}
 use Rattle.input.specs.Elim.{with-Room, on-Room}
 use Rattle.input.specs.Lent.{Lent, lent, typeNumber, levelIn, layerIn, keepSelectorOf, keepRuleOf, taken, putEntry}
 use Rattle.input.specs.Source.{Spot, spot, reading}
@@ -50,9 +48,6 @@ use Rattle.parser.specs.declared.Selected.{Selected}
 use Rattle.parser.specs.declared.Selected.the-variants.{NoSelector, OneSelector}
 use Rattle.parser.specs.declared.Start.{Start}
 use Rattle.parser.specs.declared.Start.the-variants.{BadStart, Body, ColorsBlock, Object}
-
-different : {A : Type 0} → _≡_ {A = Bool} true false → A
-different z = clash {b = true} refl z
 
 -- ---- parts
 

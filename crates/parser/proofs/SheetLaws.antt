@@ -2,7 +2,7 @@
 use Prim.Native.Nat.{ℕ, zero, suc, _-_, _<_}
 use native.Mathlib.Omega.{arith}
 use mathlib.Core.Path.{_≡_, refl, sym, ap, subst, _∙_}
-use mathlib.Core.Bool.{Bool, true, false, not}
+use mathlib.Core.Bool.{not}
 use mathlib.Core.List.{List, [], _∷_, _++_}
 use mathlib.Core.Option.{none, some}
 use lib.Dec.{T}
@@ -11,7 +11,7 @@ use types.Run.{OneOf}
 use mir.Val.{hasKey}
 use denote.Enum.Declared.{tagOf}
 use Rattle.base.specs.Bytes.{Bytes, within}
-use Rattle.base.specs.Choice.{clash}
+use Rattle.base.specs.Choice.{different}
 use Rattle.base.specs.Refusal.{refusal}
 use Rattle.base.specs.declared.Range.{Range}
 use Rattle.base.specs.declared.refusal.Refusal.{Refusal}
@@ -54,9 +54,6 @@ use Rattle.parser.specs.declared.Statement.the-variants.{BadStatement, E
 use Rattle.parser.proofs.Laws.{another, beyond}
 use Rattle.parser.proofs.ValueLaws.{after-refused, after-done, lead-stop, lead-on}
 use Rattle.parser.proofs.Turns.{Goes, goes-start, goes-end, goes-on}
-
-different : {A : Type 0} → _≡_ {A = Bool} true false → A
-different z = clash {b = true} refl z
 
 -- ---- storing a colour
 

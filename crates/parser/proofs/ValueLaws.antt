@@ -4,10 +4,9 @@ use native.Mathlib.Omega.{arith}
 use mathlib.Core.Path.{_≡_, refl, sym, ap, subst, _∙_}
 use mathlib.Core.Bool.{Bool, true, false, cond}
 use mathlib.Core.List.{List}
-use mathlib.Core.Option.{Option, none, some}
-use lib.Ieee.{Float}
+use mathlib.Core.Option.{none, some}
 use Rattle.base.specs.Bytes.{Bytes, same, within}
-use Rattle.base.specs.Choice.{pick, by-test, if-true, if-false, clash}
+use Rattle.base.specs.Choice.{pick, different}
 use Rattle.base.specs.declared.Range.{Range}
 use Rattle.base.specs.declared.refusal.Refusal.{Refusal}
 use Rattle.cursor.specs.declared.Cursor.{Cursor}
@@ -15,8 +14,8 @@ use Rattle.group.specs.declared.Place.the-variants.{Nowhere, At}
 use Rattle.table.specs.Value.{rangeAt}
 use Rattle.table.specs.declared.PropertyValue.{PropertyValue}
 use Rattle.grammar.specs.Token.{Name}
-use Rattle.grammar.specs.Reading.{Value, Property, property, colorNamed}
-use Rattle.grammar.specs.Input.{propertyEntry, Answer, refused, read, on-option, after, keep}
+use Rattle.grammar.specs.Reading.{Value, property, colorNamed}
+use Rattle.grammar.specs.Input.{propertyEntry, Answer, refused, on-option, after, keep}
 use Rattle.input.specs.Elim.{with-Room, on-Room}
 use Rattle.input.specs.Lent.{Lent, lent, valueShown, freshNumbers, keepPropertyOf, taken, putEntry, colorAt, colorsFrom, placeFrom}
 use Rattle.input.specs.Source.{Spot, spot, reading}
@@ -31,9 +30,6 @@ use Rattle.parser.specs.declared.Kept.{Kept}
 use Rattle.parser.specs.declared.Kept.the-variants.{Refused, Done}
 use Rattle.parser.specs.declared.ValueRead.{ValueRead}
 use Rattle.parser.specs.declared.ValueRead.the-variants.{BadValue, GoodValue}
-
-different : {A : Type 0} → _≡_ {A = Bool} true false → A
-different z = clash {b = true} refl z
 
 -- ---- what a call has read leads on
 

@@ -1,12 +1,11 @@
 -- What a reading holds is drawn from tokens: its names stand in the bundle, its colours have three bytes.
 use Prim.Native.Nat.{ℕ}
 use mathlib.Core.Path.{_≡_, refl, sym, ap, ap₂, subst}
-use mathlib.Core.Bool.{Bool, true, false}
 use mathlib.Core.List.{List, [], _∷_, _++_}
 use mathlib.Core.Option.{some}
 use lib.ListN.{length}
 use Rattle.base.specs.Bytes.{Bytes, same}
-use Rattle.base.specs.Choice.{by-test, clash}
+use Rattle.base.specs.Choice.{by-test, different}
 use Rattle.color.specs.declared.Color.{Color}
 use Rattle.sheet.specs.Digits.{isWhole}
 use Rattle.table.specs.declared.Name.the-variants.{Plain, Joined}
@@ -56,7 +55,7 @@ define-small (d ∷ Γ) n c s (and-then p h) =
 
 pub named-small : (Γ : Colors) (n : Name′) (c : Color) → SmallAll Γ → colorNamed n Γ ≡ some c → Small c
 unfolding colorNamed
-named-small [] n c none-left e = let z : _≡_ {A = Bool} true false = cc in clash {b = true} refl z
+named-small [] n c none-left e = different cc
 named-small (d ∷ Γ) n c (and-then p h) e =
     by-test (same (n .bytes) (d .name .bytes))
     (λ q. let m : some (d .color) ≡ some c = rw q at e in let k : d .color ≡ c = cc in subst Small k p)
