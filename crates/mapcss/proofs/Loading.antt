@@ -1,18 +1,13 @@
 -- What holds of every load, from the grammar's theorems on the reader.
-use Prim.Native.Nat.{ℕ, _<_}
-use native.Mathlib.Omega.{arith}
+use Prim.Native.Nat.{ℕ}
 use mathlib.Core.Path.{_≡_, refl, sym, ap, _∙_}
-use mathlib.Core.Bool.{true, false}
+use mathlib.Core.Bool.{true}
 use mathlib.Core.List.{List}
-use lib.Dec.{ltb}
 use lib.ListN.{length}
-use borrow.Author.Tests.{ltb-true, ltb-false}
 use Rattle.base.specs.Bytes.{Bytes}
-use Rattle.base.specs.Choice.{by-test, if-false, different}
-use Rattle.base.specs.Refusal.{refusal}
+use Rattle.base.specs.Choice.{different}
 use Rattle.base.specs.declared.refusal.Refusal.{Refusal}
-use Rattle.bundle.proofs.Check.{bundle-long}
-use Rattle.bundle.specs.Bundle.{isBundle, checkOf}
+use Rattle.bundle.specs.Bundle.{checkOf}
 use Rattle.bundle.specs.Elim.{on-Checked}
 use Rattle.bundle.specs.declared.Checked.{Checked}
 use Rattle.bundle.specs.declared.Checked.the-variants.{BadBundle, Texts}
@@ -25,6 +20,7 @@ use Rattle.input.proofs.Fuel.{fueled}
 use Rattle.input.specs.Encode.{Lengths, capacities, tallyOf, lentOf}
 use Rattle.input.specs.Lent.{lentStore}
 use Rattle.input.specs.Source.{Spot, reading}
+use Rattle.parser.proofs.LoadLaws.{short-bundle}
 use Rattle.parser.specs.Load.{Held, zeros, heldIn, countsOf, sheetAt, loaded, loadOf}
 use Rattle.parser.specs.declared.Counts.{Counts}
 use Rattle.parser.specs.declared.Loaded.{Loaded}
@@ -110,16 +106,6 @@ refusal-zeroes bundle l e h w = go (checkOf bundle) w
     go (Texts k) w = refused-zero l e h (loadInto (reading bundle) (capacities l) (sheetAt bundle)) w
 
 -- ---- never 22
-
-no-layout : (bundle : Bytes) → false ≡ isBundle bundle → BadBundle (refusal 1 0 0 0 0) ≡ checkOf bundle
-unfolding checkOf
-no-layout bundle e = if-false (isBundle bundle) _ _ (sym e) refl
-
-short-bundle : (bundle : Bytes) {count : ℕ} → checkOf bundle ≡ Texts count → length bundle < 4294967296
-short-bundle bundle e =
-    by-test (ltb 1048576 (length bundle))
-    (λ y. let w = no-layout bundle (bundle-long bundle (ltb-true 1048576 (length bundle) y)) ∙ e in different cc)
-    (λ n. let h = ltb-false 1048576 (length bundle) n in omega arith)
 
 same-tables :
     (b : ℕ) {n n′ : Counts} {h h′ : Held}

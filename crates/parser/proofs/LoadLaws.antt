@@ -83,7 +83,7 @@ no-layout : (bundle : Bytes) → false ≡ isBundle bundle → BadBundle (refusa
 unfolding checkOf
 no-layout bundle e = if-false (isBundle bundle) _ _ (sym e) refl
 
-short-bundle : (bundle : Bytes) {count : ℕ} → checkOf bundle ≡ Texts count → length bundle < 4294967296
+pub short-bundle : (bundle : Bytes) {count : ℕ} → checkOf bundle ≡ Texts count → length bundle < 4294967296
 short-bundle bundle e =
     by-test (ltb 1048576 (length bundle))
     (λ y. let w = no-layout bundle (bundle-long bundle (ltb-true 1048576 (length bundle) y)) ∙ e in different cc)
