@@ -49,6 +49,7 @@ use Rattle.token.proofs.Shades.{colors-small}
 use Rattle.grammar.specs.Alike.{NamesGenuine, ColorsSmall, TokensGenuine}
 use Rattle.grammar.specs.Input.{broken, end, token, Store}
 use Rattle.grammar.specs.Token.{Name as Name′, Token as Token′, import, identifier, string, colorRef, number, zoomRange, color, sign}
+use Rattle.input.specs.Lent.{Small}
 use Rattle.input.specs.Source.{Spot, spot, nextAt, inputOf}
 use Rattle.input.specs.Text.{shifted, placed, textOf, nextOf, tokenOf, nameIn, rangeOf, place}
 use Rattle.input.specs.declared.Place.{Place}
@@ -60,10 +61,6 @@ pub record Genuine (bundle : Bytes) (a : Name′) : Type 0 where
   pub single : a .ranges ≡ rangeOf a ∷ []
   pub ordered : rangeOf a .from ≤ rangeOf a .to
   pub ends : rangeOf a .to ≤ length bundle
-
--- three bytes
-abbrev pub Small : Rgb → Type 0
-Small x = (x .r < 256) × ((x .g < 256) × (x .b < 256))
 
 module _ (bundle : Bytes) where
   -- what a token holds

@@ -11,10 +11,10 @@ use Rattle.grammar.specs.Input.{read}
 use Rattle.grammar.specs.Reader.{load}
 use Rattle.grammar.specs.Reading.{Reading}
 use Rattle.input.specs.Encode.{Lengths, capacities, lentOf}
-use Rattle.input.specs.Lent.{Lent, lentStore}
+use Rattle.input.specs.Lent.{Lent, lentStore, Small}
 use Rattle.input.specs.Source.{Spot, reading}
 use Rattle.input.proofs.Fuel.{fueled}
-use Rattle.input.proofs.Genuine.{Genuine, Small, tokens-genuine}
+use Rattle.input.proofs.Genuine.{Genuine, tokens-genuine}
 use Rattle.input.proofs.Standing.{Written, standing, written-empty}
 
 module _ (bundle : Bytes) (l : Lengths) (short : length bundle < 4294967296) where

@@ -30,11 +30,11 @@ use Rattle.grammar.specs.CapacityLaws.{last-count, onward}
 use Rattle.grammar.specs.Alike.{BothPut, bothFull, bothTake, Proper, Stands}
 use Rattle.input.specs.Elim.{on-Room, with-Room}
 use Rattle.input.specs.Encode.{Lengths, capacities, Rows, noRows, addRow, addRows, rowsOf, colorRows, tallyOf, lentOf}
-use Rattle.input.specs.Lent.{Lent, lent, none-yet, with-Put, keepOf, oneColor, keepNumberOf, keepTestOf, keepPropertyOf, keepSelectorOf, keepRuleOf, recolored, addColorOf, colorsOf, placeFrom, keepColorOf, taken, putEntry, lentStore, valueShown, freshNumbers}
+use Rattle.input.specs.Lent.{Lent, lent, none-yet, with-Put, keepOf, oneColor, keepNumberOf, keepTestOf, keepPropertyOf, keepSelectorOf, keepRuleOf, recolored, addColorOf, colorsOf, placeFrom, keepColorOf, taken, putEntry, lentStore, valueShown, freshNumbers, Small}
 use Rattle.input.specs.Text.{rangeOf}
 use Rattle.input.specs.declared.Room.the-variants.{NoRoom, Stored}
 use Rattle.input.specs.declared.Tally.{Tally}
-use Rattle.input.proofs.Genuine.{Genuine, Small}
+use Rattle.input.proofs.Genuine.{Genuine}
 use Rattle.input.proofs.Rows.{test-eight, value-eight, rows-even, rows-counted, rows-last}
 use Rattle.input.proofs.Tints.{rows-long, rows-more, AllGenuine, none as noColor, define-genuine, colors-back, Sought, new, old, color-sought}
 

@@ -18,9 +18,9 @@ use Rattle.table.specs.Words.{word, colorWords}
 use Rattle.grammar.specs.Token.{Name as Name′}
 use Rattle.grammar.specs.Reading.{ColorDef, colorDef, Colors, define}
 use Rattle.input.specs.Encode.{colorRows}
-use Rattle.input.specs.Lent.{colorAt, recolored, colorsFrom, colorsOf, placeFrom}
+use Rattle.input.specs.Lent.{colorAt, recolored, colorsFrom, colorsOf, placeFrom, Small}
 use Rattle.input.specs.Text.{nameIn, rangeOf}
-use Rattle.input.proofs.Genuine.{Genuine, Small}
+use Rattle.input.proofs.Genuine.{Genuine}
 
 -- ---- words of a row
 

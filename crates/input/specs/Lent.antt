@@ -1,5 +1,5 @@
 -- The lent tables as a store of the grammar's reader: the words of each entry, and the counts.
-use Prim.Native.Nat.{ℕ, zero, suc, _+_, _*_, _%_}
+use Prim.Native.Nat.{ℕ, zero, suc, _+_, _*_, _%_, _<_}
 use mathlib.Core.List.{List, [], _∷_}
 use mathlib.Core.Option.{Option, none, some}
 use lib.Ieee.{Float}
@@ -27,7 +27,7 @@ use Rattle.table.specs.declared.Name.the-variants.{Plain, Joined}
 use Rattle.table.specs.declared.PropertyValue.{PropertyValue}
 use Rattle.table.specs.declared.PropertyValue.the-variants.{NoValue, Identifier, Text, Shade, Numbers, WidthDelta}
 use Rattle.grammar.specs.Token.{Name as Name′}
-use Rattle.grammar.specs.Reading.{Operand, plain, digits, Test, unary, text, numeric, Value, word, quoted, colored, numbers, widthDelta, Selector, Property, Colors, colorDef}
+use Rattle.grammar.specs.Reading.{plain, digits, Test, unary, text, numeric, Value, word, quoted, colored, numbers, widthDelta, Colors, colorDef}
 use Rattle.grammar.specs.Input.{Entry, ruleEntry, selectorEntry, testEntry, propertyEntry, numberEntry, colorEntry, Store}
 use Rattle.input.specs.Elim.{with-Room}
 use Rattle.input.specs.Text.{nameIn, rangeOf}
@@ -194,6 +194,10 @@ keepRuleOf n t =
     keepOf 8 t (n .rules) (ruleWords (range (n .selector) (n .selectors)) (range (n .property) (n .properties))) (oneRule n)
 
 -- ---- colours
+
+-- of three bytes
+abbrev pub Small : Color → Type 0
+Small x = (x .r < 256) × ((x .g < 256) × (x .b < 256))
 
 abbrev pub colorAt : List ℕ → ℕ → Color
 colorAt t i = rgb (wordAt t i 3 % 256) (wordAt t i 4 % 256) (wordAt t i 5 % 256)

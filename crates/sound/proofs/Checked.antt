@@ -38,7 +38,8 @@ use Rattle.valid.specs.Valid.{
   propertySound,
   allBelow,
 }
-use Rattle.sound.specs.Lies.{Small, Span, Lies, Layer}
+use Rattle.input.specs.Lent.{Small}
+use Rattle.sound.specs.Lies.{Span, Lies, Layer}
 use Rattle.input.proofs.Tints.{word-behind}
 
 -- the eight words of entry i

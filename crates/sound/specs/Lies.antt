@@ -1,26 +1,22 @@
 -- What a reading must hold for its tables to pass the check of handed tables: names that stand in the bundle, whole numbers in
 -- `=` and `!=` tests, and colours of three bytes.
-use Prim.Native.Nat.{ℕ, _<_, _≤_}
+use Prim.Native.Nat.{ℕ, _≤_}
 use mathlib.Core.Path.{_≡_}
 use mathlib.Core.Bool.{true}
 use mathlib.Core.List.{List, [], _∷_}
 use Rattle.base.specs.declared.Range.{Range}
-use Rattle.color.specs.declared.Color.{Color}
 use Rattle.sheet.specs.Digits.{isWhole}
 use Rattle.table.specs.declared.LayerName.{LayerName}
 use Rattle.table.specs.declared.LayerName.the-variants.{Unnamed, Named}
 use Rattle.table.specs.declared.Name.{Name}
 use Rattle.table.specs.declared.Name.the-variants.{Plain, Joined}
 use Rattle.grammar.specs.Reading.{plain, digits, Test, unary, text, numeric, Value, word, quoted, colored, numbers, widthDelta, Selector, Property, Rule, Item, ruleItem, colorItem}
-use Rattle.input.specs.Lent.{layerIn, nameShown}
+use Rattle.input.specs.Lent.{layerIn, nameShown, Small}
 use Rattle.input.specs.Text.{rangeOf}
 
 pub data Each {A : Type 0} (P : A → Type 0) : List A → Type 0 where
   none-left : Each P []
   and-then : {x : A} {xs : List A} → P x → Each P xs → Each P (x ∷ xs)
-
-abbrev pub Small : Color → Type 0
-Small x = (x .r < 256) × ((x .g < 256) × (x .b < 256))
 
 -- beside a bundle of so many bytes
 module _ (bundle : ℕ) where
