@@ -1,7 +1,7 @@
 -- The names of tokens are ranges of the bundle, and their colours have three bytes.
 use Prim.Native.Nat.{ℕ, _+_, _-_, _<_, _≤_}
 use native.Mathlib.Omega.{arith}
-use mathlib.Core.Path.{_≡_, refl, subst}
+use mathlib.Core.Path.{_≡_, refl, sym, subst}
 use mathlib.Core.List.{[], _∷_}
 use lib.ListN.{length, drop, length-take, length-drop}
 use Rattle.base.specs.Bytes.{Bytes, within}
@@ -16,34 +16,7 @@ use Rattle.token.specs.Step.{stepOf}
 use Rattle.token.specs.declared.Step.{Step}
 use Rattle.token.specs.declared.Step.the-variants.{Wrong, End, Took}
 use Rattle.token.specs.declared.Token.{Token}
-use Rattle.token.specs.declared.Token.the-variants.{
-  Import,
-  Identifier,
-  Text,
-  Number,
-  ZoomRange,
-  ColorRef,
-  Color,
-  LeftParen,
-  RightParen,
-  LeftBracket,
-  RightBracket,
-  LeftBrace,
-  RightBrace,
-  Equal,
-  NotEqual,
-  Less,
-  Greater,
-  LessOrEqual,
-  GreaterOrEqual,
-  RegexMatch,
-  Bang,
-  QuestionMark,
-  Colon,
-  DoubleColon,
-  SemiColon,
-  Comma,
-}
+use Rattle.token.specs.declared.Token.the-variants.{Color}
 use Rattle.token.proofs.Consuming.{steps-consume}
 use Rattle.token.proofs.Shades.{colors-small}
 use Rattle.grammar.specs.Alike.{NamesGenuine, ColorsSmall, TokensGenuine}
@@ -54,6 +27,7 @@ use Rattle.input.specs.Source.{Spot, spot, nextAt, inputOf}
 use Rattle.input.specs.Text.{shifted, placed, textOf, nextOf, tokenOf, nameIn, rangeOf, place}
 use Rattle.input.specs.declared.Place.{Place}
 use Rattle.input.specs.declared.Source.{Source}
+use Rattle.input.proofs.TokenLaws.{by-token}
 
 -- a name in one place of the bundle, with the bytes that stand there
 pub record Genuine (bundle : Bytes) (a : Name′) : Type 0 where
@@ -87,32 +61,13 @@ module _ (bundle : Bytes) where
       → from + b ≤ length bundle
       → Holds (tokenOf bundle (placed from u))
   unfolding tokenOf
-  token-holds from a b (Import r) i s h = name-in from a b r i h
-  token-holds from a b (Identifier r) i s h = name-in from a b r i h
-  token-holds from a b (Text r) i s h = name-in from a b r i h
-  token-holds from a b (ColorRef r) i s h = name-in from a b r i h
-  token-holds from a b (Number x) i s h = tt
-  token-holds from a b (ZoomRange x y) i s h = tt
-  token-holds from a b (Color x) i s h = s x refl
-  token-holds from a b LeftParen i s h = tt
-  token-holds from a b RightParen i s h = tt
-  token-holds from a b LeftBracket i s h = tt
-  token-holds from a b RightBracket i s h = tt
-  token-holds from a b LeftBrace i s h = tt
-  token-holds from a b RightBrace i s h = tt
-  token-holds from a b Equal i s h = tt
-  token-holds from a b NotEqual i s h = tt
-  token-holds from a b Less i s h = tt
-  token-holds from a b Greater i s h = tt
-  token-holds from a b LessOrEqual i s h = tt
-  token-holds from a b GreaterOrEqual i s h = tt
-  token-holds from a b RegexMatch i s h = tt
-  token-holds from a b Bang i s h = tt
-  token-holds from a b QuestionMark i s h = tt
-  token-holds from a b Colon i s h = tt
-  token-holds from a b DoubleColon i s h = tt
-  token-holds from a b SemiColon i s h = tt
-  token-holds from a b Comma i s h = tt
+  token-holds from a b =
+      by-token
+      (λ u. Inside a b u → ((x : Rgb) → u ≡ Color x → Small x) → from + b ≤ length bundle → Holds (tokenOf bundle (placed from u)))
+      (λ r i s h. name-in from a b r i h) (λ r i s h. name-in from a b r i h) (λ r i s h. name-in from a b r i h)
+      (λ x i s h. tt) (λ x y i s h. tt)
+      (λ r i s h. name-in from a b r i h) (λ x i s h. s x refl)
+      (λ u g i s h. subst (λ u. Holds (tokenOf bundle u)) (g .stays from) (subst Holds (sym (g .read-as bundle)) tt))
 
   -- a place of a text that is not empty is a place of the bundle
   in-bundle : (s : Source) (k : ℕ) → 0 < k → k ≤ length (textOf bundle s) → s .range .from + k ≤ length bundle

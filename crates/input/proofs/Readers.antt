@@ -1,7 +1,7 @@
 -- The small readers answer as the grammar's reader goes on, whatever the tables are; and each takes a byte at least.
 use Prim.Native.Nat.{_<_}
 use native.Mathlib.Omega.{arith}
-use mathlib.Core.Path.{_≡_, refl, subst, _∙_}
+use mathlib.Core.Path.{_≡_, refl, ap, subst, _∙_}
 use mathlib.Core.Bool.{Bool, true, false, cond}
 use lib.Ieee.{Float}
 use Rattle.base.specs.Bytes.{Bytes}
@@ -14,36 +14,9 @@ use Rattle.token.specs.Elim.{on-Step}
 use Rattle.token.specs.declared.Step.{Step}
 use Rattle.token.specs.declared.Step.the-variants.{Wrong, End, Took}
 use Rattle.token.specs.declared.Token.{Token}
-use Rattle.token.specs.declared.Token.the-variants.{
-  Import,
-  Identifier,
-  Text,
-  Number,
-  ZoomRange,
-  ColorRef,
-  Color,
-  LeftParen,
-  RightParen,
-  LeftBracket,
-  RightBracket,
-  LeftBrace,
-  RightBrace,
-  Equal,
-  NotEqual,
-  Less,
-  Greater,
-  LessOrEqual,
-  GreaterOrEqual,
-  RegexMatch,
-  Bang,
-  QuestionMark,
-  Colon,
-  DoubleColon,
-  SemiColon,
-  Comma,
-}
 use Rattle.grammar.specs.Token.{Name, joined, Sign, Token as Token′, import, identifier, string, colorRef, number, zoomRange, color, sign, colon}
 use Rattle.grammar.specs.View.{isSign, on-identifier, on-number}
+use Rattle.grammar.specs.ViewLaws.{identifier-holds, number-holds}
 use Rattle.grammar.specs.Input.{broken, end, token, Store, Answer, refused, on-next}
 use Rattle.grammar.specs.Reader.{readMandatoryToken, unexpectedToken, expectSimpleToken, readIdentifier, readKey}
 use Rattle.table.specs.declared.Name.{Name as Key′}
@@ -57,10 +30,12 @@ use Rattle.input.specs.declared.Past.the-variants.{Another, Beyond}
 use Rattle.input.specs.declared.Word.{Word}
 use Rattle.input.specs.declared.Word.the-variants.{NoWord, IsWord}
 use Rattle.input.specs.declared.Key.the-variants.{NoKey, IsKey}
+use Rattle.input.specs.declared.Figure.{Figure}
 use Rattle.input.specs.declared.Figure.the-variants.{NoFigure, IsFigure}
 use Rattle.input.specs.declared.Place.{Place}
 use Rattle.input.specs.declared.Source.{Source}
 use Rattle.input.proofs.Fuel.{mandatory-moves}
+use Rattle.input.proofs.TokenLaws.{word-named}
 
 module _ (bundle : Bytes) {T : Type 0} (st : Store T) {A : Type 0} (s : Source) where
   pub mandatory-is :
@@ -119,42 +94,25 @@ module _ (bundle : Bytes) {T : Type 0} (st : Store T) {A : Type 0} (s : Source) 
       (c : Cursor) (τ : T) (k : Name → Spot → Answer A Spot T Refusal)
       → readIdentifier (inputOf bundle st) (spot s c) τ k
       ≡ on-Word (wordOf bundle s c) (λ e. refused e τ) (λ a d. k (nameIn bundle a) (spot s d))
-  unfolding wordOf on-Mandatory on-Word on-identifier tokenOf
+  unfolding wordOf on-Mandatory on-Word on-identifier
   word-is c τ k = mandatory-is c τ _ ∙ go (mandatoryOf bundle s c)
     where
       by-token :
-          (t : Token) (o : Place) (d : Cursor)
-          → on-identifier (tokenOf bundle t) (λ a. k a (spot s d)) (refused (refusalAt 4 3 o) τ)
+          (t : Token′) (o : Place) (d : Cursor)
+          → ((a : Name) → t ≡ identifier a → a ≡ nameIn bundle (rangeOf a))
+          → on-identifier t (λ a. k a (spot s d)) (refused (refusalAt 4 3 o) τ)
           ≡ on-Word
-          (on-identifier (tokenOf bundle t) (λ a. IsWord (rangeOf a) d) (NoWord (refusalAt 4 3 o)))
+          (on-identifier t (λ a. IsWord (rangeOf a) d) (NoWord (refusalAt 4 3 o)))
           (λ e. refused e τ)
           (λ a d. k (nameIn bundle a) (spot s d))
-      by-token (Import r) o d = refl
-      by-token (Identifier r) o d = refl
-      by-token (Text r) o d = refl
-      by-token (Number x) o d = refl
-      by-token (ZoomRange a b) o d = refl
-      by-token (ColorRef r) o d = refl
-      by-token (Color x) o d = refl
-      by-token LeftParen o d = refl
-      by-token RightParen o d = refl
-      by-token LeftBracket o d = refl
-      by-token RightBracket o d = refl
-      by-token LeftBrace o d = refl
-      by-token RightBrace o d = refl
-      by-token Equal o d = refl
-      by-token NotEqual o d = refl
-      by-token Less o d = refl
-      by-token Greater o d = refl
-      by-token LessOrEqual o d = refl
-      by-token GreaterOrEqual o d = refl
-      by-token RegexMatch o d = refl
-      by-token Bang o d = refl
-      by-token QuestionMark o d = refl
-      by-token Colon o d = refl
-      by-token DoubleColon o d = refl
-      by-token SemiColon o d = refl
-      by-token Comma o d = refl
+      by-token (import x) o d n = refl
+      by-token (identifier x) o d n = ap (λ a. k a (spot s d)) (n x refl)
+      by-token (string x) o d n = refl
+      by-token (colorRef x) o d n = refl
+      by-token (number x) o d n = refl
+      by-token (zoomRange x y) o d n = refl
+      by-token (color x) o d n = refl
+      by-token (sign x) o d n = refl
 
       go :
           (m : Mandatory)
@@ -164,7 +122,7 @@ module _ (bundle : Bytes) {T : Type 0} (st : Store T) {A : Type 0} (s : Source) 
           (λ e. refused e τ)
           (λ a d. k (nameIn bundle a) (spot s d))
       go (NoToken e) = refl
-      go (Got t o d) = by-token t o d
+      go (Got t o d) = by-token (tokenOf bundle t) o d (word-named bundle t)
 
   pub figure-is :
       (c : Cursor) (τ : T) (k : Float → Spot → Answer A Spot T Refusal)
@@ -284,60 +242,36 @@ module _ (bundle : Bytes) (s : Source) where
       go (Got t o f) q e = by-sign (isSign g (tokenOf bundle t)) t o f q e
 
   pub word-moves : (c d : Cursor) (a : Range) → wordOf bundle s c ≡ IsWord a d → left bundle s d < left bundle s c
-  unfolding wordOf on-Mandatory on-identifier
+  unfolding wordOf on-Mandatory
   word-moves c d a e = go (mandatoryOf bundle s c) refl e
     where
-      by-token :
-          (u : Token′) (t : Token) (o : Place) (f : Cursor)
-          → mandatoryOf bundle s c ≡ Got t o f
-          → on-identifier u (λ a. IsWord (rangeOf a) f) (NoWord (refusalAt 4 3 o)) ≡ IsWord a d
-          → left bundle s d < left bundle s c
-      by-token (import x) t o f q e = different cc
-      by-token (identifier x) t o f q e =
-          let p : f ≡ d = cc in
-          mandatory-moves bundle s c d t o (subst (λ f. mandatoryOf bundle s c ≡ Got t o f) p q)
-      by-token (string x) t o f q e = different cc
-      by-token (colorRef x) t o f q e = different cc
-      by-token (number x) t o f q e = different cc
-      by-token (zoomRange x y) t o f q e = different cc
-      by-token (color x) t o f q e = different cc
-      by-token (sign x) t o f q e = different cc
-
       go :
           (m : Mandatory)
           → mandatoryOf bundle s c ≡ m
           → on-Mandatory m NoWord (λ t o d. on-identifier (tokenOf bundle t) (λ a. IsWord (rangeOf a) d) (NoWord (refusalAt 4 3 o))) ≡ IsWord a d
           → left bundle s d < left bundle s c
       go (NoToken x) q e = different cc
-      go (Got t o f) q e = by-token (tokenOf bundle t) t o f q e
+      go (Got t o f) q e =
+          identifier-holds (λ (w : Word). w ≡ IsWord a d → left bundle s d < left bundle s c) (tokenOf bundle t) (λ a. IsWord (rangeOf a) f) (NoWord (refusalAt 4 3 o))
+          (λ x i e. let p : f ≡ d = cc in mandatory-moves bundle s c d t o (subst (λ f. mandatoryOf bundle s c ≡ Got t o f) p q))
+          (λ e. different cc)
+          e
 
   pub figure-moves : (c d : Cursor) (x : Float) → figureOf bundle s c ≡ IsFigure x d → left bundle s d < left bundle s c
-  unfolding figureOf on-Mandatory on-number
+  unfolding figureOf on-Mandatory
   figure-moves c d y e = go (mandatoryOf bundle s c) refl e
     where
-      by-token :
-          (u : Token′) (t : Token) (o : Place) (f : Cursor)
-          → mandatoryOf bundle s c ≡ Got t o f
-          → on-number u (λ x. IsFigure x f) (NoFigure (refusalAt 4 3 o)) ≡ IsFigure y d
-          → left bundle s d < left bundle s c
-      by-token (import x) t o f q e = different cc
-      by-token (identifier x) t o f q e = different cc
-      by-token (string x) t o f q e = different cc
-      by-token (colorRef x) t o f q e = different cc
-      by-token (number x) t o f q e =
-          let p : f ≡ d = cc in
-          mandatory-moves bundle s c d t o (subst (λ f. mandatoryOf bundle s c ≡ Got t o f) p q)
-      by-token (zoomRange x z′) t o f q e = different cc
-      by-token (color x) t o f q e = different cc
-      by-token (sign x) t o f q e = different cc
-
       go :
           (m : Mandatory)
           → mandatoryOf bundle s c ≡ m
           → on-Mandatory m NoFigure (λ t o d. on-number (tokenOf bundle t) (λ x. IsFigure x d) (NoFigure (refusalAt 4 3 o))) ≡ IsFigure y d
           → left bundle s d < left bundle s c
       go (NoToken x) q e = different cc
-      go (Got t o f) q e = by-token (tokenOf bundle t) t o f q e
+      go (Got t o f) q e =
+          number-holds (λ (w : Figure). w ≡ IsFigure y d → left bundle s d < left bundle s c) (tokenOf bundle t) (λ x. IsFigure x f) (NoFigure (refusalAt 4 3 o))
+          (λ x i e. let p : f ≡ d = cc in mandatory-moves bundle s c d t o (subst (λ f. mandatoryOf bundle s c ≡ Got t o f) p q))
+          (λ e. different cc)
+          e
 
   pub key-moves :
       (a : Range) (c d : Cursor) (key : Key′) (t : Token) (o : Place)

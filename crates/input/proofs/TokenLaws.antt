@@ -10,9 +10,12 @@ use types.Run.{OneOf, miss}
 use mir.Val.{hasKey}
 use denote.Enum.Declared.{tagOf}
 use Rattle.base.specs.Bytes.{Bytes}
-use Rattle.base.specs.Choice.{by-test, clash}
+use Rattle.base.specs.Choice.{by-test, different}
+use Rattle.base.specs.declared.Range.{Range}
+use Rattle.base.specs.declared.refusal.Refusal.{Refusal}
 use Rattle.color.specs.declared.Color.{Color as Shade}
 use Rattle.token.proofs.Token.{the-type}
+use Rattle.token.specs.declared.ZoomLevel.{ZoomLevel}
 use Rattle.token.specs.declared.Token.{Token}
 use Rattle.token.specs.declared.Token.the-variants.{
   Import,
@@ -44,10 +47,9 @@ use Rattle.token.specs.declared.Token.the-variants.{
 }
 use Rattle.grammar.specs.Token.{Name, Sign, Token as Token′, import, identifier, string, colorRef, number, zoomRange, color, sign, leftParen, rightParen, leftBracket, rightBracket, leftBrace, rightBrace, equalSign, notEqualSign, lessSign, greaterSign, lessOrEqualSign, greaterOrEqualSign, regexMatch, bang, questionMark, colon, doubleColon, semiColon, comma}
 use Rattle.grammar.specs.View.{isSign, on-import, on-identifier, on-string, on-colorRef, on-number, on-zoomRange, on-color}
-use Rattle.grammar.specs.ViewLaws.{sign-is}
-use Rattle.base.specs.declared.refusal.Refusal.{Refusal}
+use Rattle.grammar.specs.ViewLaws.{sign-is, import-holds, identifier-holds, string-holds, colorRef-holds, number-holds, zoomRange-holds, color-holds}
 use Rattle.cursor.specs.declared.Cursor.{Cursor}
-use Rattle.input.specs.Text.{tokenOf}
+use Rattle.input.specs.Text.{placed, nameIn, rangeOf, tokenOf}
 use Rattle.input.specs.Elim.{on-Mandatory, Mandatory-Got}
 use Rattle.input.specs.declared.Mandatory.{Mandatory}
 use Rattle.input.specs.declared.Mandatory.the-variants.{Got}
@@ -84,35 +86,60 @@ tagOf′ (colorRef a) = 5
 tagOf′ (color c) = 6
 tagOf′ (sign g) = signTag g
 
+-- a token of one sign, the same anywhere
+pub record Signed (t : Token) : Type 0 where
+  pub is : Sign
+  pub tagged : tagOf the-type t ≡ signTag is
+  pub read-as : (bundle : Bytes) → tokenOf bundle t ≡ sign is
+  pub stays : (from : ℕ) → t ≡ placed from t
+
+-- what holds of the tokens with contents and of all signs holds of every token
+module _ (P : Token → Type 0) (import-case : (r : Range) → P (Import r)) (identifier-case : (r : Range) → P (Identifier r)) (text-case : (r : Range) → P (Text r)) (number-case : (x : Float) → P (Number x)) (zoom-case : (a b : ZoomLevel) → P (ZoomRange a b)) (ref-case : (r : Range) → P (ColorRef r)) (color-case : (c : Shade) → P (Color c)) (sign-case : (t : Token) → Signed t → P t) where
+  pub by-token : (t : Token) → P t
+  unfolding tokenOf
+  by-token (Import r) = import-case r
+  by-token (Identifier r) = identifier-case r
+  by-token (Text r) = text-case r
+  by-token (Number x) = number-case x
+  by-token (ZoomRange a b) = zoom-case a b
+  by-token (ColorRef r) = ref-case r
+  by-token (Color c) = color-case c
+  by-token LeftParen = sign-case LeftParen (record { is = leftParen; tagged = refl; read-as = λ bundle. refl; stays = λ from. refl })
+  by-token RightParen = sign-case RightParen (record { is = rightParen; tagged = refl; read-as = λ bundle. refl; stays = λ from. refl })
+  by-token LeftBracket = sign-case LeftBracket (record { is = leftBracket; tagged = refl; read-as = λ bundle. refl; stays = λ from. refl })
+  by-token RightBracket = sign-case RightBracket (record { is = rightBracket; tagged = refl; read-as = λ bundle. refl; stays = λ from. refl })
+  by-token LeftBrace = sign-case LeftBrace (record { is = leftBrace; tagged = refl; read-as = λ bundle. refl; stays = λ from. refl })
+  by-token RightBrace = sign-case RightBrace (record { is = rightBrace; tagged = refl; read-as = λ bundle. refl; stays = λ from. refl })
+  by-token Equal = sign-case Equal (record { is = equalSign; tagged = refl; read-as = λ bundle. refl; stays = λ from. refl })
+  by-token NotEqual = sign-case NotEqual (record { is = notEqualSign; tagged = refl; read-as = λ bundle. refl; stays = λ from. refl })
+  by-token Less = sign-case Less (record { is = lessSign; tagged = refl; read-as = λ bundle. refl; stays = λ from. refl })
+  by-token Greater = sign-case Greater (record { is = greaterSign; tagged = refl; read-as = λ bundle. refl; stays = λ from. refl })
+  by-token LessOrEqual = sign-case LessOrEqual (record { is = lessOrEqualSign; tagged = refl; read-as = λ bundle. refl; stays = λ from. refl })
+  by-token GreaterOrEqual = sign-case GreaterOrEqual (record { is = greaterOrEqualSign; tagged = refl; read-as = λ bundle. refl; stays = λ from. refl })
+  by-token RegexMatch = sign-case RegexMatch (record { is = regexMatch; tagged = refl; read-as = λ bundle. refl; stays = λ from. refl })
+  by-token Bang = sign-case Bang (record { is = bang; tagged = refl; read-as = λ bundle. refl; stays = λ from. refl })
+  by-token QuestionMark = sign-case QuestionMark (record { is = questionMark; tagged = refl; read-as = λ bundle. refl; stays = λ from. refl })
+  by-token Colon = sign-case Colon (record { is = colon; tagged = refl; read-as = λ bundle. refl; stays = λ from. refl })
+  by-token DoubleColon = sign-case DoubleColon (record { is = doubleColon; tagged = refl; read-as = λ bundle. refl; stays = λ from. refl })
+  by-token SemiColon = sign-case SemiColon (record { is = semiColon; tagged = refl; read-as = λ bundle. refl; stays = λ from. refl })
+  by-token Comma = sign-case Comma (record { is = comma; tagged = refl; read-as = λ bundle. refl; stays = λ from. refl })
+
 -- the grammar's token has the tag of the tokenizer's
 pub same-tag : (bundle : Bytes) (t : Token) → tagOf the-type t ≡ tagOf′ (tokenOf bundle t)
 unfolding tokenOf
-same-tag bundle (Import r) = refl
-same-tag bundle (Identifier r) = refl
-same-tag bundle (Text r) = refl
-same-tag bundle (Number x) = refl
-same-tag bundle (ZoomRange a b) = refl
-same-tag bundle (ColorRef r) = refl
-same-tag bundle (Color c) = refl
-same-tag bundle LeftParen = refl
-same-tag bundle RightParen = refl
-same-tag bundle LeftBracket = refl
-same-tag bundle RightBracket = refl
-same-tag bundle LeftBrace = refl
-same-tag bundle RightBrace = refl
-same-tag bundle Equal = refl
-same-tag bundle NotEqual = refl
-same-tag bundle Less = refl
-same-tag bundle Greater = refl
-same-tag bundle LessOrEqual = refl
-same-tag bundle GreaterOrEqual = refl
-same-tag bundle RegexMatch = refl
-same-tag bundle Bang = refl
-same-tag bundle QuestionMark = refl
-same-tag bundle Colon = refl
-same-tag bundle DoubleColon = refl
-same-tag bundle SemiColon = refl
-same-tag bundle Comma = refl
+same-tag bundle =
+    by-token (λ t. tagOf the-type t ≡ tagOf′ (tokenOf bundle t)) (λ r. refl) (λ r. refl) (λ r. refl) (λ x. refl) (λ a b. refl) (λ r. refl) (λ c. refl)
+    (λ t s. s .tagged ∙ ap tagOf′ (sym (s .read-as bundle)))
+
+-- a word stands in one place of the bundle
+pub word-named : (bundle : Bytes) (t : Token) (a : Name) → tokenOf bundle t ≡ identifier a → a ≡ nameIn bundle (rangeOf a)
+unfolding tokenOf
+word-named bundle =
+    by-token (λ t. (a : Name) → tokenOf bundle t ≡ identifier a → a ≡ nameIn bundle (rangeOf a))
+    (λ r a e. different cc)
+    (λ r a e. let z : nameIn bundle r ≡ a = cc in subst (λ a. a ≡ nameIn bundle (rangeOf a)) z refl)
+    (λ r a e. different cc) (λ x a e. different cc) (λ x y a e. different cc) (λ r a e. different cc) (λ c a e. different cc)
+    (λ t s a e. let z = sym (s .read-as bundle) ∙ e in different cc)
 
 -- the tags that are none of these
 abbrev pub others : List ℕ → List ℕ
@@ -121,6 +148,18 @@ others taken = from 26 0
     from : ℕ → ℕ → List ℕ
     from zero k = []
     from (suc n) k = cond (hasKey taken k) (from n (suc k)) (k ∷ from n (suc k))
+
+-- a token without a range is the same anywhere
+pub placed-other : (from : ℕ) (t : Token) → OneOf (others (0 ∷ 1 ∷ 2 ∷ 5 ∷ [])) (tagOf the-type t) → t ≡ placed from t
+placed-other from =
+    by-token (λ t. OneOf (others (0 ∷ 1 ∷ 2 ∷ 5 ∷ [])) (tagOf the-type t) → t ≡ placed from t)
+    (λ r h. absurd (miss (others (0 ∷ 1 ∷ 2 ∷ 5 ∷ [])) 0 tt h))
+    (λ r h. absurd (miss (others (0 ∷ 1 ∷ 2 ∷ 5 ∷ [])) 1 tt h))
+    (λ r h. absurd (miss (others (0 ∷ 1 ∷ 2 ∷ 5 ∷ [])) 2 tt h))
+    (λ x h. refl) (λ a b h. refl)
+    (λ r h. absurd (miss (others (0 ∷ 1 ∷ 2 ∷ 5 ∷ [])) 5 tt h))
+    (λ c h. refl)
+    (λ t s h. s .stays from)
 
 -- a token of the last arm, where arms with these tags stand before it
 module _ (bundle : Bytes) (taken : List ℕ) (t : Token) (h : OneOf (others taken) (tagOf the-type t)) where
@@ -135,102 +174,25 @@ module _ (bundle : Bytes) (taken : List ℕ) (t : Token) (h : OneOf (others take
 
   module _ {B : Type 0} (Q : B → Type 0) where
     pub not-identifier : (f : Name → B) (g : B) → T (not (hasKey (others taken) 1)) → Q g → Q (on-identifier (tokenOf bundle t) f g)
-    unfolding on-identifier
-    not-identifier f g n q = go (tokenOf bundle t) (other-tag 1 n)
-      where
-        go : (t : Token′) → (tagOf′ t ≡ 1 → ⊥) → Q (on-identifier t f g)
-        go (import x) m = q
-        go (identifier x) m = absurd (m refl)
-        go (string x) m = q
-        go (colorRef x) m = q
-        go (number x) m = q
-        go (zoomRange x y) m = q
-        go (color x) m = q
-        go (sign x) m = q
+    not-identifier f g n q = identifier-holds Q (tokenOf bundle t) f g (λ x e. absurd (other-tag 1 n (ap tagOf′ e))) q
 
     pub not-number : (f : Float → B) (g : B) → T (not (hasKey (others taken) 3)) → Q g → Q (on-number (tokenOf bundle t) f g)
-    unfolding on-number
-    not-number f g n q = go (tokenOf bundle t) (other-tag 3 n)
-      where
-        go : (t : Token′) → (tagOf′ t ≡ 3 → ⊥) → Q (on-number t f g)
-        go (import x) m = q
-        go (identifier x) m = q
-        go (string x) m = q
-        go (colorRef x) m = q
-        go (number x) m = absurd (m refl)
-        go (zoomRange x y) m = q
-        go (color x) m = q
-        go (sign x) m = q
+    not-number f g n q = number-holds Q (tokenOf bundle t) f g (λ x e. absurd (other-tag 3 n (ap tagOf′ e))) q
 
     pub not-string : (f : Name → B) (g : B) → T (not (hasKey (others taken) 2)) → Q g → Q (on-string (tokenOf bundle t) f g)
-    unfolding on-string
-    not-string f g n q = go (tokenOf bundle t) (other-tag 2 n)
-      where
-        go : (t : Token′) → (tagOf′ t ≡ 2 → ⊥) → Q (on-string t f g)
-        go (import x) m = q
-        go (identifier x) m = q
-        go (string x) m = absurd (m refl)
-        go (colorRef x) m = q
-        go (number x) m = q
-        go (zoomRange x y) m = q
-        go (color x) m = q
-        go (sign x) m = q
+    not-string f g n q = string-holds Q (tokenOf bundle t) f g (λ x e. absurd (other-tag 2 n (ap tagOf′ e))) q
 
     pub not-import : (f : Name → B) (g : B) → T (not (hasKey (others taken) 0)) → Q g → Q (on-import (tokenOf bundle t) f g)
-    unfolding on-import
-    not-import f g n q = go (tokenOf bundle t) (other-tag 0 n)
-      where
-        go : (t : Token′) → (tagOf′ t ≡ 0 → ⊥) → Q (on-import t f g)
-        go (import x) m = absurd (m refl)
-        go (identifier x) m = q
-        go (string x) m = q
-        go (colorRef x) m = q
-        go (number x) m = q
-        go (zoomRange x y) m = q
-        go (color x) m = q
-        go (sign x) m = q
+    not-import f g n q = import-holds Q (tokenOf bundle t) f g (λ x e. absurd (other-tag 0 n (ap tagOf′ e))) q
 
     pub not-colorRef : (f : Name → B) (g : B) → T (not (hasKey (others taken) 5)) → Q g → Q (on-colorRef (tokenOf bundle t) f g)
-    unfolding on-colorRef
-    not-colorRef f g n q = go (tokenOf bundle t) (other-tag 5 n)
-      where
-        go : (t : Token′) → (tagOf′ t ≡ 5 → ⊥) → Q (on-colorRef t f g)
-        go (import x) m = q
-        go (identifier x) m = q
-        go (string x) m = q
-        go (colorRef x) m = absurd (m refl)
-        go (number x) m = q
-        go (zoomRange x y) m = q
-        go (color x) m = q
-        go (sign x) m = q
+    not-colorRef f g n q = colorRef-holds Q (tokenOf bundle t) f g (λ x e. absurd (other-tag 5 n (ap tagOf′ e))) q
 
     pub not-zoomRange : (f : Option ℕ → Option ℕ → B) (g : B) → T (not (hasKey (others taken) 4)) → Q g → Q (on-zoomRange (tokenOf bundle t) f g)
-    unfolding on-zoomRange
-    not-zoomRange f g n q = go (tokenOf bundle t) (other-tag 4 n)
-      where
-        go : (t : Token′) → (tagOf′ t ≡ 4 → ⊥) → Q (on-zoomRange t f g)
-        go (import x) m = q
-        go (identifier x) m = q
-        go (string x) m = q
-        go (colorRef x) m = q
-        go (number x) m = q
-        go (zoomRange x y) m = absurd (m refl)
-        go (color x) m = q
-        go (sign x) m = q
+    not-zoomRange f g n q = zoomRange-holds Q (tokenOf bundle t) f g (λ x y e. absurd (other-tag 4 n (ap tagOf′ e))) q
 
     pub not-color : (f : Shade → B) (g : B) → T (not (hasKey (others taken) 6)) → Q g → Q (on-color (tokenOf bundle t) f g)
-    unfolding on-color
-    not-color f g n q = go (tokenOf bundle t) (other-tag 6 n)
-      where
-        go : (t : Token′) → (tagOf′ t ≡ 6 → ⊥) → Q (on-color t f g)
-        go (import x) m = q
-        go (identifier x) m = q
-        go (string x) m = q
-        go (colorRef x) m = q
-        go (number x) m = q
-        go (zoomRange x y) m = q
-        go (color x) m = absurd (m refl)
-        go (sign x) m = q
+    not-color f g n q = color-holds Q (tokenOf bundle t) f g (λ x e. absurd (other-tag 6 n (ap tagOf′ e))) q
 
 -- a choice by a test that is known
 module _ {A : Type 0} where

@@ -1,4 +1,5 @@
-use Rattle.input.proofs.Placing.{both-fit, placed-other}
+use Rattle.input.proofs.Placing.{both-fit}
+use Rattle.input.proofs.TokenLaws.{placed-other}
 use Rattle.input.specs.Text.{placed}
 use Rattle.token.specs.declared.Token.the-variants.{Import, Identifier, Text, ColorRef}
 use Rattle.token.specs.Claims.{Inside}
