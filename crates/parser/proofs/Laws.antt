@@ -40,6 +40,19 @@ use Rattle.parser.specs.declared.Kept.{Kept}
 use Rattle.parser.specs.declared.Listed.{Listed}
 use Rattle.parser.specs.declared.Listed.the-variants.{Unlisted, LastListed, NextListed}
 
+-- ---- an option that is known
+
+module _ {A B : Type 0} (Q : B → Type 0) where
+  pub option-none : (x : Option A) (f : B) (k : A → B) → x ≡ none → Q f → Q (on-option x f k)
+  unfolding on-option
+  option-none x f k e q = subst (λ x. Q (on-option x f k)) (sym e) q
+
+  pub option-some : (x : Option A) (f : B) (k : A → B) {y : A} → x ≡ some y → Q (k y) → Q (on-option x f k)
+  unfolding on-option
+  option-some x f k e q = subst (λ x. Q (on-option x f k)) (sym e) q
+
+-- ---- the small readers
+
 module _ {A : Type 0} (Q : Answer A Spot Lent Refusal → Type 0) (bundle : Bytes) (s : Source) where
   pub no-token :
       (c : Cursor) (τ : Lent) (k : Token′ → Place → Spot → Answer A Spot Lent Refusal) {e : Refusal}
@@ -147,14 +160,6 @@ module _ {A : Type 0} (Q : Answer A Spot Lent Refusal → Type 0) (bundle : Byte
 
   -- ---- storing
 
-  option-none : {B : Type 0} (x : Option B) (f : Answer A Spot Lent Refusal) (k : B → Answer A Spot Lent Refusal) → x ≡ none → Q f → Q (on-option x f k)
-  unfolding on-option
-  option-none x f k e q = subst (λ x. Q (on-option x f k)) (sym e) q
-
-  option-some : {B : Type 0} (x : Option B) (f : Answer A Spot Lent Refusal) (k : B → Answer A Spot Lent Refusal) {y : B} → x ≡ some y → Q (k y) → Q (on-option x f k)
-  unfolding on-option
-  option-some x f k e q = subst (λ x. Q (on-option x f k)) (sym e) q
-
   pub no-room-test :
       (x : Test) (row : List ℕ) (c : Cursor) (τ : Lent) (k : Lent → Answer A Spot Lent Refusal) {u : List ℕ}
       → testRow x (τ .tally .number) ≡ row
@@ -163,7 +168,7 @@ module _ {A : Type 0} (Q : Answer A Spot Lent Refusal → Type 0) (bundle : Byte
       → Q (keep (reading bundle) (testEntry x) (spot s c) τ k)
   unfolding putEntry taken with-Room on-Room
   no-room-test x row c τ k r e q =
-      option-none _ _ k
+      option-none Q _ _ k
       (ap (λ y. taken y λ n t. lent n (τ .rules) (τ .selectors) t (τ .properties) (τ .numbers) (τ .colors)) (ap (keepTestOf (τ .tally) (τ .tests)) r ∙ e))
       q
 
@@ -175,7 +180,7 @@ module _ {A : Type 0} (Q : Answer A Spot Lent Refusal → Type 0) (bundle : Byte
       → Q (keep (reading bundle) (testEntry x) (spot s c) τ k)
   unfolding putEntry taken with-Room on-Room
   room-test x row c τ k r e q =
-      option-some _ _ k
+      option-some Q _ _ k
       (ap (λ y. taken y λ n t. lent n (τ .rules) (τ .selectors) t (τ .properties) (τ .numbers) (τ .colors)) (ap (keepTestOf (τ .tally) (τ .tests)) r ∙ e))
       q
 
@@ -186,7 +191,7 @@ module _ {A : Type 0} (Q : Answer A Spot Lent Refusal → Type 0) (bundle : Byte
       → Q (keep (reading bundle) (numberEntry x) (spot s c) τ k)
   unfolding putEntry taken with-Room on-Room
   no-room-number x c τ k e q =
-      option-none _ _ k
+      option-none Q _ _ k
       (ap (λ y. taken y λ n t. lent n (τ .rules) (τ .selectors) (τ .tests) (τ .properties) t (τ .colors)) e)
       q
 
@@ -197,7 +202,7 @@ module _ {A : Type 0} (Q : Answer A Spot Lent Refusal → Type 0) (bundle : Byte
       → Q (keep (reading bundle) (numberEntry x) (spot s c) τ k)
   unfolding putEntry taken with-Room on-Room
   room-number x c τ k e q =
-      option-some _ _ k
+      option-some Q _ _ k
       (ap (λ y. taken y λ n t. lent n (τ .rules) (τ .selectors) (τ .tests) (τ .properties) t (τ .colors)) e)
       q
 

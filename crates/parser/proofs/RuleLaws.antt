@@ -24,7 +24,7 @@ use types.Run.{OneOf}
 use denote.Enum.Declared.{tagOf}
 use Rattle.token.proofs.Token.{the-type}
 use Rattle.input.proofs.TokenLaws.{others, not-sign, not-identifier}
-use Rattle.parser.proofs.Laws.{no-way}
+use Rattle.parser.proofs.Laws.{option-none, option-some, no-way}
 use Rattle.parser.specs.Answers.{Reads, refuses, done}
 use Rattle.parser.specs.declared.Kept.{Kept}
 use Rattle.parser.specs.declared.Kept.the-variants.{Done}
@@ -369,10 +369,11 @@ module _ {A : Type 0} (Q : Answer A Spot Lent Refusal → Type 0) (bundle : Byte
       → keepSelectorOf (τ .tally) (τ .selectors) kind min max layer ≡ (NoRoom, u)
       → Q (refused (refusalAt 20 2 (reachedAt s c)) τ)
       → Q (keep (reading bundle) (selectorEntry σ) (spot s c) τ k)
-  unfolding putEntry taken with-Room on-Room on-option
+  unfolding putEntry taken with-Room on-Room
   no-room-selector σ kind min max layer c τ k h e q =
-      subst (λ y. Q (on-option y (refused (refusalAt 20 2 (reachedAt s c)) τ) k))
-      (sym (ap (λ y. taken y λ n t. lent n (τ .rules) t (τ .tests) (τ .properties) (τ .numbers) (τ .colors)) (selector-row σ kind min max layer τ h ∙ e))) q
+      option-none Q _ _ k
+      (ap (λ y. taken y λ n t. lent n (τ .rules) t (τ .tests) (τ .properties) (τ .numbers) (τ .colors)) (selector-row σ kind min max layer τ h ∙ e))
+      q
 
   pub room-selector :
       (σ : Selector) (kind : ℕ) (min max : ZoomLevel) (layer : LayerName) (c : Cursor) (τ : Lent) (k : Lent → Answer A Spot Lent Refusal) {n : Tally} {u : List ℕ}
@@ -380,30 +381,33 @@ module _ {A : Type 0} (Q : Answer A Spot Lent Refusal → Type 0) (bundle : Byte
       → keepSelectorOf (τ .tally) (τ .selectors) kind min max layer ≡ (Stored n, u)
       → Q (k (lent n (τ .rules) u (τ .tests) (τ .properties) (τ .numbers) (τ .colors)))
       → Q (keep (reading bundle) (selectorEntry σ) (spot s c) τ k)
-  unfolding putEntry taken with-Room on-Room on-option
+  unfolding putEntry taken with-Room on-Room
   room-selector σ kind min max layer c τ k h e q =
-      subst (λ y. Q (on-option y (refused (refusalAt 20 2 (reachedAt s c)) τ) k))
-      (sym (ap (λ y. taken y λ n t. lent n (τ .rules) t (τ .tests) (τ .properties) (τ .numbers) (τ .colors)) (selector-row σ kind min max layer τ h ∙ e))) q
+      option-some Q _ _ k
+      (ap (λ y. taken y λ n t. lent n (τ .rules) t (τ .tests) (τ .properties) (τ .numbers) (τ .colors)) (selector-row σ kind min max layer τ h ∙ e))
+      q
 
   pub no-room-rule :
       (c : Cursor) (τ : Lent) (k : Lent → Answer A Spot Lent Refusal) {u : List ℕ}
       → keepRuleOf (τ .tally) (τ .rules) ≡ (NoRoom, u)
       → Q (refused (refusalAt 20 1 (reachedAt s c)) τ)
       → Q (keep (reading bundle) ruleEntry (spot s c) τ k)
-  unfolding putEntry taken with-Room on-Room on-option
+  unfolding putEntry taken with-Room on-Room
   no-room-rule c τ k e q =
-      subst (λ y. Q (on-option y (refused (refusalAt 20 1 (reachedAt s c)) τ) k))
-      (sym (ap (λ y. taken y λ n t. lent n t (τ .selectors) (τ .tests) (τ .properties) (τ .numbers) (τ .colors)) e)) q
+      option-none Q _ _ k
+      (ap (λ y. taken y λ n t. lent n t (τ .selectors) (τ .tests) (τ .properties) (τ .numbers) (τ .colors)) e)
+      q
 
   pub room-rule :
       (c : Cursor) (τ : Lent) (k : Lent → Answer A Spot Lent Refusal) {n : Tally} {u : List ℕ}
       → keepRuleOf (τ .tally) (τ .rules) ≡ (Stored n, u)
       → Q (k (lent n u (τ .selectors) (τ .tests) (τ .properties) (τ .numbers) (τ .colors)))
       → Q (keep (reading bundle) ruleEntry (spot s c) τ k)
-  unfolding putEntry taken with-Room on-Room on-option
+  unfolding putEntry taken with-Room on-Room
   room-rule c τ k e q =
-      subst (λ y. Q (on-option y (refused (refusalAt 20 1 (reachedAt s c)) τ) k))
-      (sym (ap (λ y. taken y λ n t. lent n t (τ .selectors) (τ .tests) (τ .properties) (τ .numbers) (τ .colors)) e)) q
+      option-some Q _ _ k
+      (ap (λ y. taken y λ n t. lent n t (τ .selectors) (τ .tests) (τ .properties) (τ .numbers) (τ .colors)) e)
+      q
 
 -- ---- colors blocks and object types
 

@@ -51,7 +51,7 @@ use Rattle.parser.specs.declared.Parsed.{Parsed}
 use Rattle.parser.specs.declared.Parsed.the-variants.{Stopped, Ended}
 use Rattle.parser.specs.declared.Statement.{Statement}
 use Rattle.parser.specs.declared.Statement.the-variants.{BadStatement, EndOfText, ImportOf, ColorOf, RuleAt}
-use Rattle.parser.proofs.Laws.{another, beyond}
+use Rattle.parser.proofs.Laws.{option-none, option-some, another, beyond}
 use Rattle.parser.proofs.ValueLaws.{after-refused, after-done, lead-stop, lead-on}
 use Rattle.parser.proofs.Turns.{Goes, goes-start, goes-end, goes-on}
 
@@ -63,20 +63,22 @@ module _ {A : Type 0} (Q : Answer A Spot Lent Refusal → Type 0) (bundle : Byte
       → keepColorOf bundle (τ .tally) (τ .colors) (within name bundle) name x ≡ (NoRoom, u)
       → Q (refused (refusalAt 20 6 (reachedAt s c)) τ)
       → Q (keep (reading bundle) (colorEntry (nameIn bundle name) x) (spot s c) τ k)
-  unfolding putEntry taken with-Room on-Room on-option
+  unfolding putEntry taken with-Room on-Room
   no-room-color name x c τ k e q =
-      subst (λ y. Q (on-option y (refused (refusalAt 20 6 (reachedAt s c)) τ) k))
-      (sym (ap (λ y. taken y λ n t. lent n (τ .rules) (τ .selectors) (τ .tests) (τ .properties) (τ .numbers) t) e)) q
+      option-none Q _ _ k
+      (ap (λ y. taken y λ n t. lent n (τ .rules) (τ .selectors) (τ .tests) (τ .properties) (τ .numbers) t) e)
+      q
 
   pub room-color :
       (name : Range) (x : Color) (c : Cursor) (τ : Lent) (k : Lent → Answer A Spot Lent Refusal) {n : Tally} {u : List ℕ}
       → keepColorOf bundle (τ .tally) (τ .colors) (within name bundle) name x ≡ (Stored n, u)
       → Q (k (lent n (τ .rules) (τ .selectors) (τ .tests) (τ .properties) (τ .numbers) u))
       → Q (keep (reading bundle) (colorEntry (nameIn bundle name) x) (spot s c) τ k)
-  unfolding putEntry taken with-Room on-Room on-option
+  unfolding putEntry taken with-Room on-Room
   room-color name x c τ k e q =
-      subst (λ y. Q (on-option y (refused (refusalAt 20 6 (reachedAt s c)) τ) k))
-      (sym (ap (λ y. taken y λ n t. lent n (τ .rules) (τ .selectors) (τ .tests) (τ .properties) (τ .numbers) t) e)) q
+      option-some Q _ _ k
+      (ap (λ y. taken y λ n t. lent n (τ .rules) (τ .selectors) (τ .tests) (τ .properties) (τ .numbers) t) e)
+      q
 
   -- a value that is known
   pub defined-as :

@@ -23,6 +23,7 @@ use Rattle.input.specs.Text.{nameIn, left, refusalAt, reachedAt}
 use Rattle.input.specs.declared.Room.the-variants.{NoRoom, Stored}
 use Rattle.input.specs.declared.Source.{Source}
 use Rattle.input.specs.declared.Tally.{Tally}
+use Rattle.parser.proofs.Laws.{option-none, option-some}
 use Rattle.parser.specs.Answers.{Reads, refuses, done, Values, badValue, goodValue, Leads, stops, leads, Heads, noHead, lastHead, nextHead}
 use Rattle.parser.specs.declared.Head.{Head}
 use Rattle.parser.specs.declared.Head.the-variants.{NoHead, LastHead, NextHead}
@@ -161,10 +162,11 @@ module _ {A : Type 0} (Q : Answer A Spot Lent Refusal → Type 0) (bundle : Byte
       → keepPropertyOf (τ .tally) (τ .properties) name p ≡ (NoRoom, u)
       → Q (refused (refusalAt 20 4 (reachedAt s c)) τ)
       → Q (keep (reading bundle) (propertyEntry (property (nameIn bundle name) x)) (spot s c) τ k)
-  unfolding putEntry taken with-Room on-Room on-option
+  unfolding putEntry taken with-Room on-Room
   no-room-property name x p c τ k r e q =
-      subst (λ y. Q (on-option y (refused (refusalAt 20 4 (reachedAt s c)) τ) k))
-      (sym (ap (λ y. taken y λ n t. lent n (τ .rules) (τ .selectors) (τ .tests) t (τ .numbers) (τ .colors)) (ap (keepPropertyOf (τ .tally) (τ .properties) name) r ∙ e))) q
+      option-none Q _ _ k
+      (ap (λ y. taken y λ n t. lent n (τ .rules) (τ .selectors) (τ .tests) t (τ .numbers) (τ .colors)) (ap (keepPropertyOf (τ .tally) (τ .properties) name) r ∙ e))
+      q
 
   pub room-property :
       (name : Range) (x : Value) (p : PropertyValue) (c : Cursor) (τ : Lent) (k : Lent → Answer A Spot Lent Refusal) {n : Tally} {u : List ℕ}
@@ -172,10 +174,11 @@ module _ {A : Type 0} (Q : Answer A Spot Lent Refusal → Type 0) (bundle : Byte
       → keepPropertyOf (τ .tally) (τ .properties) name p ≡ (Stored n, u)
       → Q (k (lent n (τ .rules) (τ .selectors) (τ .tests) u (τ .numbers) (τ .colors)))
       → Q (keep (reading bundle) (propertyEntry (property (nameIn bundle name) x)) (spot s c) τ k)
-  unfolding putEntry taken with-Room on-Room on-option
+  unfolding putEntry taken with-Room on-Room
   room-property name x p c τ k r e q =
-      subst (λ y. Q (on-option y (refused (refusalAt 20 4 (reachedAt s c)) τ) k))
-      (sym (ap (λ y. taken y λ n t. lent n (τ .rules) (τ .selectors) (τ .tests) t (τ .numbers) (τ .colors)) (ap (keepPropertyOf (τ .tally) (τ .properties) name) r ∙ e))) q
+      option-some Q _ _ k
+      (ap (λ y. taken y λ n t. lent n (τ .rules) (τ .selectors) (τ .tests) t (τ .numbers) (τ .colors)) (ap (keepPropertyOf (τ .tally) (τ .properties) name) r ∙ e))
+      q
 
 -- ---- a reference to a colour
 
@@ -208,9 +211,7 @@ module _ (bundle : Bytes) (t : List ℕ) (name : Range) where
 
   module _ {A : Type 0} (Q : Answer A Spot Lent Refusal → Type 0) (n : ℕ) where
     pub no-reference : (f : Answer A Spot Lent Refusal) (k : _ → Answer A Spot Lent Refusal) → placeFrom bundle (within name bundle) t 0 n ≡ Nowhere → Q f → Q (on-option (colorNamed (nameIn bundle name) (colorsFrom bundle t 0 n)) f k)
-    unfolding on-option
-    no-reference f k e q = subst (λ o. Q (on-option o f k)) (sym (no-color-from 0 n e)) q
+    no-reference f k e q = option-none Q _ f k (no-color-from 0 n e) q
 
     pub reference : (f : Answer A Spot Lent Refusal) (k : _ → Answer A Spot Lent Refusal) {i : ℕ} → placeFrom bundle (within name bundle) t 0 n ≡ At i → Q (k (colorAt t i)) → Q (on-option (colorNamed (nameIn bundle name) (colorsFrom bundle t 0 n)) f k)
-    unfolding on-option
-    reference f k e q = subst (λ o. Q (on-option o f k)) (sym (color-from 0 n e)) q
+    reference f k e q = option-some Q _ f k (color-from 0 n e) q
