@@ -83,18 +83,41 @@ module _ {C T P R : Type 0} (i : Input C T P R) where
   abbrev pub keepTest : Test → C → T → Answer Test C T R
   keepTest x c τ = keep i (testEntry x) c τ λ τ. read x c τ
 
+  -- with the number x
+  abbrev pub keepNumberTest : Float → Test → C → T → Answer Test C T R
+  keepNumberTest x y c τ = keep i (numberEntry x) c τ λ τ. keepTest y c τ
+
+  -- behind the word b, and behind the number x
+  abbrev pub readWordOperand : TextTest → Name → Name → C → T → Answer Test C T R
+  readWordOperand op a b d τ = expectSimpleToken rightBracket d τ λ e. keepTest (text op a (plain b)) e τ
+
+  abbrev pub readDigitsOperand : TextTest → Name → Float → C → T → Answer Test C T R
+  readDigitsOperand op a x d τ = expectSimpleToken rightBracket d τ λ e.
+      cond (i .countable x)
+      (keepNumberTest x (text op a (digits x)) e τ)
+      (fail i notWhole (i .reached e) τ)
+
   abbrev pub readOperand : TextTest → Name → C → T → Answer Test C T R
   readOperand op a c τ = readMandatoryToken c τ λ t o d.
-      on-identifier t (λ b. expectSimpleToken rightBracket d τ λ e. keepTest (text op a (plain b)) e τ)
-      (on-number t (λ x. expectSimpleToken rightBracket d τ λ e.
-      cond (i .countable x)
-      (keep i (numberEntry x) e τ λ τ. keepTest (text op a (digits x)) e τ)
-      (fail i notWhole (i .reached e) τ))
+      on-identifier t (λ b. readWordOperand op a b d τ)
+      (on-number t (λ x. readDigitsOperand op a x d τ)
       (unexpectedToken o τ))
 
   abbrev pub readNumber : NumericTest → Name → C → T → Answer Test C T R
   readNumber op a c τ = readMandatoryToken c τ λ t o d.
-      on-number t (λ x. expectSimpleToken rightBracket d τ λ e. keep i (numberEntry x) e τ λ τ. keepTest (numeric op a x) e τ)
+      on-number t (λ x. expectSimpleToken rightBracket d τ λ e. keepNumberTest x (numeric op a x) e τ)
+      (unexpectedToken o τ)
+
+  -- behind the question mark, without and with a bang before the key
+  abbrev pub questionTest : Name → C → T → Answer Test C T R
+  questionTest a d τ = readMandatoryToken d τ λ t o e.
+      on-sign rightBracket t (keepTest (unary isTrue a) e τ)
+      (on-sign bang t (expectSimpleToken rightBracket e τ λ f. keepTest (unary isFalse a) f τ)
+      (unexpectedToken o τ))
+
+  abbrev pub bangQuestionTest : Name → C → T → Answer Test C T R
+  bangQuestionTest a d τ = readMandatoryToken d τ λ t o e.
+      on-sign rightBracket t (keepTest (unary isFalse a) e τ)
       (unexpectedToken o τ)
 
   -- behind the key: the next token t, where it begins, and the place behind it
@@ -103,10 +126,7 @@ module _ {C T P R : Type 0} (i : Input C T P R) where
       on-option (toBinaryStringTestType t)
       (on-option (toBinaryNumericTestType t)
       (on-sign rightBracket t (keepTest (unary exists a) d τ)
-      (on-sign questionMark t (readMandatoryToken d τ λ t o e.
-      on-sign rightBracket t (keepTest (unary isTrue a) e τ)
-      (on-sign bang t (expectSimpleToken rightBracket e τ λ f. keepTest (unary isFalse a) f τ)
-      (unexpectedToken o τ)))
+      (on-sign questionMark t (questionTest a d τ)
       (unexpectedToken o τ)))
       λ op. readNumber op a d τ)
       λ op. readOperand op a d τ
@@ -114,9 +134,7 @@ module _ {C T P R : Type 0} (i : Input C T P R) where
   unfoldable pub bangTest : Name → T → Token → P → C → Answer Test C T R
   bangTest a τ t o d =
       on-sign rightBracket t (keepTest (unary notExists a) d τ)
-      (on-sign questionMark t (readMandatoryToken d τ λ t o e.
-      on-sign rightBracket t (keepTest (unary isFalse a) e τ)
-      (unexpectedToken o τ))
+      (on-sign questionMark t (bangQuestionTest a d τ)
       (unexpectedToken o τ))
 
   abbrev pub readKey : {A : Type 0} → Name → C → T → (Name → T → Token → P → C → Answer A C T R) → Answer A C T R
@@ -124,11 +142,15 @@ module _ {C T P R : Type 0} (i : Input C T P R) where
       on-sign colon t (readIdentifier d τ λ b e. readMandatoryToken e τ λ t o f. k (joined a b) τ t o f)
       (k a τ t o d)
 
+  -- behind the bang
+  abbrev pub readBangTest : C → T → Answer Test C T R
+  readBangTest d τ = readIdentifier d τ λ a e. readKey a e τ bangTest
+
   unfoldable pub readTest : C → T → Answer Test C T R
   readTest c τ = readMandatoryToken c τ λ t o d.
       on-identifier t (λ a. readKey a d τ plainTest)
       (on-string t (λ a. readKey a d τ plainTest)
-      (on-sign bang t (readIdentifier d τ λ a e. readKey a e τ bangTest)
+      (on-sign bang t (readBangTest d τ)
       (unexpectedToken o τ)))
 
   -- ---- properties: stored at their semicolon, a listed number at once, a delta just before its property
@@ -151,45 +173,73 @@ module _ {C T P R : Type 0} (i : Input C T P R) where
       on-sign semiColon t (read [] d τ)
       (after (tokensToSemiColon k d τ) λ ts e τ. read (t ∷ ts) e τ)
 
+  abbrev pub keepDelta : Float → C → T → Answer Value C T R
+  keepDelta x c τ = keep i (numberEntry x) c τ λ τ. read (widthDelta x) c τ
+
   -- all tokens up to the semicolon, and only then the form; o is where the word eval begins
   unfoldable pub readSimpleEval : ℕ → P → C → T → Answer Value C T R
   readSimpleEval k o c τ =
       after (tokensToSemiColon k c τ) λ ts d τ.
       on-option (widthIncrement ts) (fail i evalForm o τ) λ x.
-      keep i (numberEntry x) d τ λ τ. read (widthDelta x) d τ
+      keepDelta x d τ
+
+  -- before the semicolon
+  abbrev pub endValue : Value → C → T → Answer Value C T R
+  endValue v d τ = expectSimpleToken semiColon d τ λ e. read v e τ
+
+  -- behind the word a and its colon, and behind the word a
+  abbrev pub joinedValue : Name → C → T → Answer Value C T R
+  joinedValue a d τ = readIdentifier d τ λ b e. endValue (word (joined a b)) e τ
+
+  abbrev pub wordValue : Name → C → T → Answer Value C T R
+  wordValue a d τ = readMandatoryToken d τ λ t o e.
+      on-sign colon t (joinedValue a e τ)
+      (on-sign semiColon t (read (word a) e τ)
+      (unexpectedToken o τ))
+
+  -- o is where the identifier begins
+  abbrev pub identifierValue : ℕ → Name → P → C → T → Answer Value C T R
+  identifierValue k a o d τ = cond (same (a .bytes) (ascii "eval")) (readSimpleEval k o d τ) (wordValue a d τ)
+
+  abbrev pub referenceValue : Colors → Name → C → T → Answer Value C T R
+  referenceValue Γ n d τ = on-option (colorNamed n Γ) (fail i colorReference (i .reached d) τ) λ x. endValue (colored x) d τ
+
+  abbrev pub numbersValue : ℕ → Float → C → T → Answer Value C T R
+  numbersValue k x d τ = after (readNumberList k x d τ) λ xs e τ. read (numbers xs) e τ
 
   unfoldable pub readPropertyValue : ℕ → Colors → C → T → Answer Value C T R
   readPropertyValue k Γ c τ = readMandatoryToken c τ λ t o d.
-      on-identifier t (λ a.
-      cond (same (a .bytes) (ascii "eval")) (readSimpleEval k o d τ)
-      (readMandatoryToken d τ λ t o e.
-      on-sign colon t (readIdentifier e τ λ b f. expectSimpleToken semiColon f τ λ g. read (word (joined a b)) g τ)
-      (on-sign semiColon t (read (word a) e τ)
-      (unexpectedToken o τ))))
-      (on-string t (λ a. expectSimpleToken semiColon d τ λ e. read (quoted a) e τ)
-      (on-color t (λ x. expectSimpleToken semiColon d τ λ e. read (colored x) e τ)
-      (on-colorRef t
-      (λ n. on-option (colorNamed n Γ) (fail i colorReference (i .reached d) τ) λ x. expectSimpleToken semiColon d τ λ e. read (colored x) e τ)
-      (on-number t (λ x. after (readNumberList k x d τ) λ xs e τ. read (numbers xs) e τ)
+      on-identifier t (λ a. identifierValue k a o d τ)
+      (on-string t (λ a. endValue (quoted a) d τ)
+      (on-color t (λ x. endValue (colored x) d τ)
+      (on-colorRef t (λ n. referenceValue Γ n d τ)
+      (on-number t (λ x. numbersValue k x d τ)
       (unexpectedToken o τ)))))
+
+  -- behind the name a
+  abbrev pub readProperty : {A : Type 0} → ℕ → Colors → Name → C → T → (Value → C → T → Answer A C T R) → Answer A C T R
+  readProperty k Γ a d τ next = expectSimpleToken colon d τ λ e.
+      after (readPropertyValue k Γ e τ) λ x f τ.
+      keep i (propertyEntry (property a x)) f τ λ τ. next x f τ
 
   unfoldable pub readProperties : ℕ → Colors → C → T → Answer (List Property) C T R
   readProperties zero Γ c τ = outOfFuel c τ
   readProperties (suc k) Γ c τ = readMandatoryToken c τ λ t o d.
-      on-identifier t (λ a. expectSimpleToken colon d τ λ e.
-      after (readPropertyValue k Γ e τ) λ x f τ.
-      keep i (propertyEntry (property a x)) f τ λ τ.
+      on-identifier t (λ a. readProperty k Γ a d τ λ x f τ.
       after (readProperties k Γ f τ) λ ps g τ. read (property a x ∷ ps) g τ)
       (on-sign rightBrace t (read [] d τ)
       (unexpectedToken o τ))
 
   -- ---- selectors: stored at their comma or brace; whether more are expected
 
+  abbrev pub keepSelector : Selector → Bool → C → T → Answer (Selector × Bool) C T R
+  keepSelector σ more c τ = keep i (selectorEntry σ) c τ λ τ. read (σ, more) c τ
+
   unfoldable pub readParts : ℕ → Selector → C → T → Answer (Selector × Bool) C T R
   readParts zero σ c τ = outOfFuel c τ
   readParts (suc k) σ c τ = readMandatoryToken c τ λ t o d.
-      on-sign leftBrace t (keep i (selectorEntry σ) d τ λ τ. read (σ, false) d τ)
-      (on-sign comma t (keep i (selectorEntry σ) d τ λ τ. read (σ, true) d τ)
+      on-sign leftBrace t (keepSelector σ false d τ)
+      (on-sign comma t (keepSelector σ true d τ)
       (on-zoomRange t (λ a b. readParts k (withZoom σ a b) d τ)
       (on-sign leftBracket t (after (readTest d τ) λ x e τ. readParts k (withTest σ x) e τ)
       (on-sign colon t (readIdentifier d τ λ a e. readParts k σ e τ)
@@ -211,16 +261,23 @@ module _ {C T P R : Type 0} (i : Input C T P R) where
   abbrev pub keepRule : List Selector → List Property → C → T → Answer Rule C T R
   keepRule ss ps c τ = keep i ruleEntry c τ λ τ. read (rule ss ps) c τ
 
+  -- behind the opening brace, and behind the word colors
+  abbrev pub readBody : ℕ → Colors → List Selector → C → T → Answer Rule C T R
+  readBody k Γ ss d τ = after (readProperties k Γ d τ) λ ps e τ. keepRule ss ps e τ
+
+  abbrev pub readBlock : ℕ → C → T → Answer Rule C T R
+  readBlock k d τ = after (skipColors k d τ) λ x e τ. keepRule [] [] e τ
+
   -- at the start t of a selector; Γ are the colours, of which a rule defines none
   unfoldable pub readRule : ℕ → Colors → T → Token → P → C → Answer Rule C T R
   readRule zero Γ τ t o d = outOfFuel d τ
   readRule (suc k) Γ τ t o d =
-      on-sign leftBrace t (after (readProperties k Γ d τ) λ ps e τ. keepRule [] ps e τ)
-      (cond (isColors t) (after (skipColors k d τ) λ x e τ. keepRule [] [] e τ)
+      on-sign leftBrace t (readBody k Γ [] d τ)
+      (cond (isColors t) (readBlock k d τ)
       (after (readSelector k τ t o d) λ s e τ.
       cond (s .1)
       (readMandatoryToken e τ λ t o f. after (readRule k Γ τ t o f) λ r g τ. read (addSelector (s .0) r) g τ)
-      (after (readProperties k Γ e τ) λ ps f τ. keepRule (s .0 ∷ []) ps f τ)))
+      (readBody k Γ (s .0 ∷ []) e τ)))
 
   -- ---- sheets: a colour is stored at its semicolon; a definition that is no colour has no effect
 

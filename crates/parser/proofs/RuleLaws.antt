@@ -19,7 +19,7 @@ use Rattle.token.specs.declared.ZoomLevel.the-variants.{NoLevel, Level}
 use Rattle.grammar.specs.Token.{Token as Token′, leftBrace}
 use Rattle.grammar.specs.Reading.{Selector, Rule, Colors, bare, addSelector, withZoom, withTest, withLayer, Test, idToObjectType}
 use Rattle.grammar.specs.Input.{selectorEntry, ruleEntry, objectType, Answer, refused, read, on-option, after, keep}
-use Rattle.grammar.specs.Reader.{isColors, readMandatoryToken, readParts, readTest, readSelector, readProperties, skipColors, keepRule, readRule}
+use Rattle.grammar.specs.Reader.{isColors, readMandatoryToken, readTest, keepSelector, readParts, readSelector, readBody, readBlock, readRule}
 use types.Run.{OneOf}
 use denote.Enum.Declared.{tagOf}
 use Rattle.token.proofs.Token.{the-type}
@@ -326,7 +326,7 @@ start-none Q bundle o τ B C O K t k q =
 abbrev pub waysOf : Bytes → ℕ → Selector → Lent → Ways
 waysOf bundle k σ τ =
     record {
-      end = λ b d. keep (reading bundle) (selectorEntry σ) d τ λ τ. read (σ, b) d τ;
+      end = λ b d. keepSelector (reading bundle) σ b d τ;
       zoom = λ a b d. readParts (reading bundle) k (withZoom σ a b) d τ;
       bracket = λ d. after (readTest (reading bundle) d τ) λ x e τ. readParts (reading bundle) k (withTest σ x) e τ;
       class = λ d. readParts (reading bundle) k σ d τ;
@@ -462,28 +462,21 @@ module _ (Q : Answer Rule Spot Lent Refusal → Type 0) (name : Bytes) (f : Answ
 -- ---- what the start of a rule leads to
 
 module _ (bundle : Bytes) (k : ℕ) (Γ : Colors) where
-  abbrev pub ruleBody : Spot → Lent → Answer Rule Spot Lent Refusal
-  ruleBody d τ = after (readProperties (reading bundle) k Γ d τ) λ ps e τ. keepRule (reading bundle) [] ps e τ
-
-  abbrev pub ruleBlock : Spot → Lent → Answer Rule Spot Lent Refusal
-  ruleBlock d τ = after (skipColors (reading bundle) k d τ) λ x e τ. keepRule (reading bundle) [] [] e τ
-
   abbrev pub ruleObject : Spot → Lent → ObjectType → Answer (Selector × Bool) Spot Lent Refusal
   ruleObject d τ y = readParts (reading bundle) k (bare y) d τ
-
-  abbrev pub ruleLast : Selector → Spot → Lent → Answer Rule Spot Lent Refusal
-  ruleLast σ e τ = after (readProperties (reading bundle) k Γ e τ) λ ps f τ. keepRule (reading bundle) (σ ∷ []) ps f τ
 
   abbrev pub ruleNext : Selector → Token′ → Place → Spot → Lent → Answer Rule Spot Lent Refusal
   ruleNext σ t o f τ = after (readRule (reading bundle) k Γ τ t o f) λ r g τ. read (addSelector σ r) g τ
 
   abbrev pub ruleChosen : Selector × Bool → Spot → Lent → Answer Rule Spot Lent Refusal
   ruleChosen σ e τ =
-      cond (σ .1) (readMandatoryToken (reading bundle) e τ λ t o f. ruleNext (σ .0) t o f τ) (ruleLast (σ .0) e τ)
+      cond (σ .1) (readMandatoryToken (reading bundle) e τ λ t o f. ruleNext (σ .0) t o f τ) (readBody (reading bundle) k Γ (σ .0 ∷ []) e τ)
 
   pub rule-starts :
       (τ : Lent) (t : Token′) (o : Place) (d : Spot) {r : Start}
-      → Starts (ruleBody d τ) (ruleBlock d τ) (ruleObject d τ) ruleChosen r (startOf bundle o τ (ruleBody d τ) (ruleBlock d τ) (ruleObject d τ) ruleChosen t)
-      → Starts (ruleBody d τ) (ruleBlock d τ) (ruleObject d τ) ruleChosen r (readRule (reading bundle) (suc k) Γ τ t o d)
+      → Starts (readBody (reading bundle) k Γ [] d τ) (readBlock (reading bundle) k d τ) (ruleObject d τ) ruleChosen r
+      (startOf bundle o τ (readBody (reading bundle) k Γ [] d τ) (readBlock (reading bundle) k d τ) (ruleObject d τ) ruleChosen t)
+      → Starts (readBody (reading bundle) k Γ [] d τ) (readBlock (reading bundle) k d τ) (ruleObject d τ) ruleChosen r
+      (readRule (reading bundle) (suc k) Γ τ t o d)
   unfolding readRule readSelector startOf
   rule-starts τ t o d h = h

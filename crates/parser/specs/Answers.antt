@@ -1,23 +1,21 @@
 -- What the loader's private functions promise: their answers are those of the grammar's reader over the bundle and the lent tables.
 use Prim.Native.Nat.{ℕ, suc, _<_, _≤_}
 use mathlib.Core.Path.{_≡_}
-use mathlib.Core.Bool.{cond}
 use mathlib.Core.List.{List}
 use lib.Ieee.{Float}
-use Rattle.base.specs.Bytes.{Bytes, ascii, same, within}
+use Rattle.base.specs.Bytes.{Bytes}
 use Rattle.base.specs.declared.Range.{Range}
 use Rattle.base.specs.declared.refusal.Refusal.{Refusal}
 use Rattle.cursor.specs.declared.Cursor.{Cursor}
-use Rattle.sheet.specs.Sheet.{TextTest, NumericTest, isTrue, isFalse}
-use Rattle.sheet.specs.Digits.{isWhole}
+use Rattle.sheet.specs.Sheet.{TextTest, NumericTest}
 use Rattle.table.specs.Words.{testWords}
 use Rattle.table.specs.declared.Name.{Name}
 use Rattle.table.specs.declared.PropertyValue.{PropertyValue}
-use Rattle.grammar.specs.Token.{Name as Name′, joined, rightBracket, rightBrace, bang, colon, semiColon, comma}
+use Rattle.grammar.specs.Token.{Name as Name′, rightBrace, semiColon, comma}
 use Rattle.grammar.specs.View.{on-sign, on-identifier, on-number}
-use Rattle.grammar.specs.Reading.{Test, unary, text, plain, digits, Value, word, colored, numbers, Property, property, Colors, colorNamed}
-use Rattle.grammar.specs.Input.{Answer, refused, read, numberEntry, propertyEntry, notWhole, colorReference, on-option, after, fail, keep}
-use Rattle.grammar.specs.Reader.{readMandatoryToken, unexpectedToken, expectSimpleToken, readIdentifier, keepTest, readOperand, readNumber, bangTest, readKey, readNumberList, readSimpleEval, readPropertyValue, readProperties, readRule}
+use Rattle.grammar.specs.Reading.{Test, Value, Property, property, Colors}
+use Rattle.grammar.specs.Input.{Answer, refused, read, propertyEntry, keep}
+use Rattle.grammar.specs.Reader.{keepNumberTest, readWordOperand, readDigitsOperand, endValue, readProperty, readMandatoryToken, unexpectedToken, keepTest, readOperand, readNumber, readNumberList, readProperties, readRule}
 use Rattle.input.specs.Lent.{Lent, lent, testRow, wordKind, digitsKind, numericKind, valueShown, freshNumbers, colorsOf}
 use Rattle.input.specs.Source.{Spot, spot, reading}
 use Rattle.input.specs.Text.{left, nameIn, nameOf, tokenOf}
@@ -73,7 +71,7 @@ NumberTestKept s c n kind key x ts xs ts′ xs′ r =
     (bundle : Bytes) (y : Test)
     → ((p : ℕ) → testRow y p ≡ testWords kind key p 0)
     → TestsRead bundle s c n ts xs ts′ xs′
-    (λ τ. keep (reading bundle) (numberEntry x) (spot s c) τ λ τ. keepTest (reading bundle) y (spot s c) τ) r
+    (keepNumberTest (reading bundle) x y (spot s c)) r
 
 -- behind the word b, by the kind of the test
 abbrev pub WordRead : Bytes → Source → Name → ℕ → Range → Cursor → Tally → List ℕ → List ℕ → Kept → Type 0
@@ -81,7 +79,7 @@ WordRead bundle s key kind b c n ts ts′ r =
     (op : TextTest)
     → wordKind op ≡ kind
     → TestRead bundle s c n ts ts′
-    (λ τ. expectSimpleToken (reading bundle) rightBracket (spot s c) τ λ e. keepTest (reading bundle) (text op (nameOf bundle key) (plain (nameIn bundle b))) e τ) r
+    (readWordOperand (reading bundle) op (nameOf bundle key) (nameIn bundle b) (spot s c)) r
 
 -- behind the number x
 abbrev pub DigitsRead : Bytes → Source → Name → ℕ → Float → Cursor → Tally → List ℕ → List Float → List ℕ → List Float → Kept → Type 0
@@ -89,10 +87,7 @@ DigitsRead bundle s key kind x c n ts xs ts′ xs′ r =
     (op : TextTest)
     → digitsKind op ≡ kind
     → TestsRead bundle s c n ts xs ts′ xs′
-    (λ τ. expectSimpleToken (reading bundle) rightBracket (spot s c) τ λ e.
-    cond (isWhole x)
-    (keep (reading bundle) (numberEntry x) e τ λ τ. keepTest (reading bundle) (text op (nameOf bundle key) (digits x)) e τ)
-    (fail (reading bundle) notWhole (reading bundle .reached e) τ)) r
+    (readDigitsOperand (reading bundle) op (nameOf bundle key) x (spot s c)) r
 
 abbrev pub OperandRead : Bytes → Source → Name → ℕ → ℕ → Cursor → Tally → List ℕ → List Float → List ℕ → List Float → Kept → Type 0
 OperandRead bundle s key words figures c n ts xs ts′ xs′ r =
@@ -106,21 +101,6 @@ NumericRead bundle s key kind c n ts xs ts′ xs′ r =
     (op : NumericTest)
     → numericKind op ≡ kind
     → TestsRead bundle s c n ts xs ts′ xs′ (readNumber (reading bundle) op (nameOf bundle key) (spot s c)) r
-
--- behind the question mark of a test, without and with a bang before it
-abbrev pub isTrueOr : Bytes → Name′ → Spot → Lent → Answer Test Spot Lent Refusal
-isTrueOr bundle a p τ = readMandatoryToken (reading bundle) p τ λ t o e.
-    on-sign rightBracket t (keepTest (reading bundle) (unary isTrue a) e τ)
-    (on-sign bang t (expectSimpleToken (reading bundle) rightBracket e τ λ f. keepTest (reading bundle) (unary isFalse a) f τ)
-    (unexpectedToken (reading bundle) o τ))
-
-abbrev pub onlyFalse : Bytes → Name′ → Spot → Lent → Answer Test Spot Lent Refusal
-onlyFalse bundle a p τ = readMandatoryToken (reading bundle) p τ λ t o e.
-    on-sign rightBracket t (keepTest (reading bundle) (unary isFalse a) e τ)
-    (unexpectedToken (reading bundle) o τ)
-
-abbrev pub bangKey : Bytes → Spot → Lent → Answer Test Spot Lent Refusal
-bangKey bundle p τ = readIdentifier (reading bundle) p τ λ a e. readKey (reading bundle) a e τ (bangTest (reading bundle))
 
 -- ---- properties
 
@@ -169,32 +149,7 @@ abbrev pub ValueEnd : Bytes → Source → PropertyValue → Cursor → Tally �
 ValueEnd bundle s p c n r =
     (v : Value)
     → valueShown v (freshNumbers n) ≡ p
-    → ValueAnswer bundle s c n (λ τ. expectSimpleToken (reading bundle) semiColon (spot s c) τ λ e. read v e τ) r
-
--- behind the first word of a value that is no eval, and behind its colon
-abbrev pub joinedValue : Bytes → Range → Spot → Lent → Answer Value Spot Lent Refusal
-joinedValue bundle a p τ = readIdentifier (reading bundle) p τ λ b f.
-    expectSimpleToken (reading bundle) semiColon f τ λ g. read (word (joined (nameIn bundle a) b)) g τ
-
-abbrev pub wordValue : Bytes → Range → Spot → Lent → Answer Value Spot Lent Refusal
-wordValue bundle a p τ = readMandatoryToken (reading bundle) p τ λ t o e.
-    on-sign colon t (joinedValue bundle a e τ)
-    (on-sign semiColon t (read (word (nameIn bundle a)) e τ)
-    (unexpectedToken (reading bundle) o τ))
-
--- a reference to one of the colours
-abbrev pub referenceValue : Bytes → Range → Colors → Spot → Lent → Answer Value Spot Lent Refusal
-referenceValue bundle a Γ p τ =
-    on-option (colorNamed (nameIn bundle a) Γ) (fail (reading bundle) colorReference (reading bundle .reached p) τ) λ x.
-    expectSimpleToken (reading bundle) semiColon p τ λ e. read (colored x) e τ
-
--- an identifier, which is eval or a word; o is where it begins
-abbrev pub identifierValue : Bytes → Range → Place → Spot → ℕ → Lent → Answer Value Spot Lent Refusal
-identifierValue bundle a o p k τ =
-    cond (same (within a bundle) (ascii "eval")) (readSimpleEval (reading bundle) k o p τ) (wordValue bundle a p τ)
-
-abbrev pub listValue : Bytes → Float → Spot → ℕ → Lent → Answer Value Spot Lent Refusal
-listValue bundle x p k τ = after (readNumberList (reading bundle) k x p τ) λ xs e τ. read (numbers xs) e τ
+    → ValueAnswer bundle s c n (endValue (reading bundle) v (spot s c)) r
 
 -- what was read leads on: K is what comes next
 pub data Leads {A X : Type 0} (bundle : Bytes) (s : Source) (bound : ℕ) (tables : Tally → Lent) (K : X → Spot → Lent → Answer A Spot Lent Refusal) : Kept → Answer A Spot Lent Refusal → Type 0 where
@@ -218,9 +173,7 @@ PropertyRead bundle s a c n Γ ps xs ps′ xs′ r =
     (τ : Lent) (k : ℕ) (K : Value → Spot → Lent → Answer (List Property) Spot Lent Refusal)
     → left bundle s c < k
     → Leads bundle s (left bundle s c) (atProperties τ ps′ xs′) K r
-    (expectSimpleToken (reading bundle) colon (spot s c) (atProperties τ ps xs n) λ e.
-    after (readPropertyValue (reading bundle) k Γ e (atProperties τ ps xs n)) λ x f τ.
-    keep (reading bundle) (propertyEntry (property (nameIn bundle a) x)) f τ λ τ. K x f τ)
+    (readProperty (reading bundle) k Γ (nameIn bundle a) (spot s c) (atProperties τ ps xs n) K)
 
 -- the beginning of a property: K is what the closing brace leads to, N a name
 pub data Heads {A : Type 0} (bundle : Bytes) (s : Source) (bound : ℕ) (K : Spot → Answer A Spot Lent Refusal) (N : Name′ → Spot → Answer A Spot Lent Refusal) : Head → Answer A Spot Lent Refusal → Type 0 where

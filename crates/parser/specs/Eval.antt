@@ -10,13 +10,12 @@ use Rattle.base.specs.Bytes.{Bytes, ascii, same}
 use Rattle.base.specs.declared.refusal.Refusal.{Refusal}
 use Rattle.cursor.specs.declared.Cursor.{Cursor}
 use Rattle.token.specs.declared.Token.{Token}
-use Rattle.table.specs.declared.PropertyValue.{PropertyValue}
 use Rattle.grammar.specs.Token.{Sign, Token as Token′, leftParen, rightParen}
 use Rattle.grammar.specs.View.{on-sign, on-identifier, on-string, on-number}
-use Rattle.grammar.specs.Reading.{Value, widthDelta, idToObjectType}
-use Rattle.grammar.specs.Input.{Answer, refused, read, numberEntry, on-option, keep}
-use Rattle.grammar.specs.Reader.{skipColors, tokensToSemiColon, readSimpleEval}
-use Rattle.input.specs.Lent.{Lent, lent, typeNumber, valueShown, freshNumbers}
+use Rattle.grammar.specs.Reading.{idToObjectType}
+use Rattle.grammar.specs.Input.{Answer, refused, read, on-option}
+use Rattle.grammar.specs.Reader.{skipColors, tokensToSemiColon, keepDelta, readSimpleEval}
+use Rattle.input.specs.Lent.{Lent, typeNumber}
 use Rattle.input.specs.Source.{Spot, spot, reading}
 use Rattle.parser.specs.Answers.{atNumbers, Values}
 use Rattle.input.specs.Text.{left, tokenOf}
@@ -29,7 +28,6 @@ use Rattle.parser.specs.declared.Form.{Form}
 use Rattle.parser.specs.declared.Formed.{Formed}
 use Rattle.parser.specs.declared.Formed.the-variants.{NoForm, IsForm}
 use Rattle.parser.specs.declared.ValueRead.{ValueRead}
-use Rattle.parser.specs.declared.ValueRead.the-variants.{BadValue, GoodValue}
 
 -- the number of the object type that a name has, and 0 without
 unfoldable pub objectNumber : Bytes → ℕ
@@ -120,7 +118,7 @@ abbrev pub DeltaKept : Source → Float → Cursor → Tally → List Float → 
 DeltaKept s x c n xs xs′ r =
     (bundle : Bytes) (τ : Lent)
     → Values bundle s (left bundle s c) (atNumbers τ xs′) r
-    (keep (reading bundle) (numberEntry x) (spot s c) (atNumbers τ xs n) λ τ. read (widthDelta x) (spot s c) τ)
+    (keepDelta (reading bundle) x (spot s c) (atNumbers τ xs n))
 
 -- with any fuel that is enough
 abbrev pub EvalRead : Bytes → Source → Place → Cursor → Tally → List Float → List Float → ValueRead → Type 0

@@ -2,7 +2,7 @@
 use Prim.Native.Nat.{ℕ, _<_, _≤_}
 use mathlib.Core.Path.{_≡_}
 use mathlib.Core.Bool.{Bool, true, false, cond}
-use mathlib.Core.List.{List, [], _∷_}
+use mathlib.Core.List.{List}
 use mathlib.Core.Option.{Option}
 use lib.Ieee.{Float}
 use Rattle.base.specs.Bytes.{Bytes, within}
@@ -17,8 +17,8 @@ use Rattle.token.specs.declared.ZoomLevel.{ZoomLevel}
 use Rattle.grammar.specs.Token.{Name, Token as Token′, leftBracket, leftBrace, colon, doubleColon, comma}
 use Rattle.grammar.specs.View.{on-sign, on-identifier, on-zoomRange}
 use Rattle.grammar.specs.Reading.{Selector, Property, Rule, Colors, bare, idToObjectType}
-use Rattle.grammar.specs.Input.{selectorEntry, ruleEntry, objectType, Answer, refused, read, on-option, after, fail, keep}
-use Rattle.grammar.specs.Reader.{isColors, readMandatoryToken, unexpectedToken, readIdentifier, readParts, readProperties, skipColors, keepRule}
+use Rattle.grammar.specs.Input.{objectType, Answer, refused, read, on-option, after, fail}
+use Rattle.grammar.specs.Reader.{isColors, readMandatoryToken, unexpectedToken, readIdentifier, keepSelector, readParts, keepRule, readBody, readBlock}
 use Rattle.input.specs.Lent.{Lent, lent, typeNumber, levelIn, layerIn}
 use Rattle.input.specs.Source.{Spot, spot, reading}
 use Rattle.input.specs.Text.{left, nameIn, levelOf, tokenOf}
@@ -101,7 +101,7 @@ SelectorKept s kind min max layer more c n ss ss′ r =
     (bundle : Bytes) (τ : Lent) (σ : Selector)
     → Shown σ kind min max layer
     → Selects bundle s (left bundle s c) (atSelectors τ ss′ (τ .tests) (τ .numbers)) r
-    (keep (reading bundle) (selectorEntry σ) (spot s c) (atSelectors τ ss (τ .tests) (τ .numbers) n) λ τ. read (σ, more) (spot s c) τ)
+    (keepSelector (reading bundle) σ more (spot s c) (atSelectors τ ss (τ .tests) (τ .numbers) n))
 
 abbrev pub SelectorRead : Bytes → Source → ℕ → Cursor → Tally → List ℕ → List ℕ → List Float → List ℕ → List ℕ → List Float → Selected → Type 0
 SelectorRead bundle s kind c n ss ts xs ss′ ts′ xs′ r =
@@ -181,11 +181,11 @@ BodyRead bundle s c n Γ rs ps xs rs′ ps′ xs′ r =
     (τ : Lent) (k : ℕ) (ss : List Selector)
     → left bundle s c < k
     → Reads bundle s (left bundle s c) (atBody τ rs′ ps′ xs′) r
-    (after (readProperties (reading bundle) k Γ (spot s c) (atBody τ rs ps xs n)) λ ps f τ. keepRule (reading bundle) ss ps f τ)
+    (readBody (reading bundle) k Γ ss (spot s c) (atBody τ rs ps xs n))
 
 abbrev pub BlockRead : Bytes → Source → Cursor → Tally → List ℕ → List ℕ → Kept → Type 0
 BlockRead bundle s c n rs rs′ r =
     (τ : Lent) (k : ℕ)
     → left bundle s c < k
     → Reads bundle s (left bundle s c) (atBody τ rs′ (τ .properties) (τ .numbers)) r
-    (after (skipColors (reading bundle) k (spot s c) (atBody τ rs (τ .properties) (τ .numbers) n)) λ x e τ. keepRule (reading bundle) [] [] e τ)
+    (readBlock (reading bundle) k (spot s c) (atBody τ rs (τ .properties) (τ .numbers) n))

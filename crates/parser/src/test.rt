@@ -1,10 +1,10 @@
 // Tests: each is stored at its bracket, a number just before its test.
 ghost use mathlib.Core.Path.{_≡_};
-ghost use Rattle.grammar.specs.Reader.{plainTest, bangTest, readKey, readTest};
+ghost use Rattle.grammar.specs.Reader.{questionTest, bangQuestionTest, plainTest, bangTest, readKey, readBangTest, readTest};
 ghost use Rattle.input.specs.Source.{spot, reading};
 ghost use Rattle.input.specs.Text.{nameIn, nameOf, tokenOf};
 ghost use Rattle.table.specs.Words.{testWords};
-ghost use Rattle.parser.specs.Answers.{TestRead, TestsRead, TestKept, NumberTestKept, WordRead, DigitsRead, OperandRead, NumericRead, isTrueOr, onlyFalse, bangKey};
+ghost use Rattle.parser.specs.Answers.{TestRead, TestsRead, TestKept, NumberTestKept, WordRead, DigitsRead, OperandRead, NumericRead};
 use crate::Kept;
 use base::Range;
 use base::refusal::NOT_WHOLE;
@@ -182,7 +182,7 @@ fn read_question(
     n: Tally,
     tests: &mut [u32],
 ) -> Kept
-    ensures { λ r. ⌜ TestRead (now (bundle .entry)) source c n (now (tests .entry)) (now (tests .exit)) (isTrueOr (now (bundle .entry)) (nameOf (now (bundle .entry)) key) (spot source c)) r ⌝ }
+    ensures { λ r. ⌜ TestRead (now (bundle .entry)) source c n (now (tests .entry)) (now (tests .exit)) (questionTest (reading (now (bundle .entry))) (nameOf (now (bundle .entry)) key) (spot source c)) r ⌝ }
 {
     match read_mandatory_token(bundle, source, c) {
         Mandatory::NoToken(e) => Kept::Refused(e),
@@ -233,7 +233,7 @@ fn read_bang_question(
     n: Tally,
     tests: &mut [u32],
 ) -> Kept
-    ensures { λ r. ⌜ TestRead (now (bundle .entry)) source c n (now (tests .entry)) (now (tests .exit)) (onlyFalse (now (bundle .entry)) (nameOf (now (bundle .entry)) key) (spot source c)) r ⌝ }
+    ensures { λ r. ⌜ TestRead (now (bundle .entry)) source c n (now (tests .entry)) (now (tests .exit)) (bangQuestionTest (reading (now (bundle .entry))) (nameOf (now (bundle .entry)) key) (spot source c)) r ⌝ }
 {
     match read_mandatory_token(bundle, source, c) {
         Mandatory::NoToken(e) => Kept::Refused(e),
@@ -284,7 +284,7 @@ fn read_plain(
 
 // Behind the bang of a test.
 fn read_bang(bundle: &[u8], source: Source, c: Cursor, n: Tally, tests: &mut [u32]) -> Kept
-    ensures { λ r. ⌜ TestRead (now (bundle .entry)) source c n (now (tests .entry)) (now (tests .exit)) (bangKey (now (bundle .entry)) (spot source c)) r ⌝ }
+    ensures { λ r. ⌜ TestRead (now (bundle .entry)) source c n (now (tests .entry)) (now (tests .exit)) (readBangTest (reading (now (bundle .entry))) (spot source c)) r ⌝ }
 {
     match read_identifier(bundle, source, c) {
         Word::NoWord(e) => Kept::Refused(e),

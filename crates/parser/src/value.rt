@@ -1,8 +1,9 @@
 // Properties: each is stored at its semicolon, a listed number at once, a width delta just before its property.
-ghost use Rattle.grammar.specs.Reader.{readPropertyValue};
+ghost use Rattle.grammar.specs.Reader.{joinedValue, wordValue, identifierValue, referenceValue, numbersValue, readPropertyValue};
 ghost use Rattle.input.specs.Lent.{colorsOf};
 ghost use Rattle.input.specs.Source.{spot, reading};
-ghost use Rattle.parser.specs.Answers.{ListedRead, NumbersRead, ValueEnd, ValueAnswer, NumbersAnswer, PropertyKept, PropertyRead, HeadRead, PropertiesRead, joinedValue, wordValue, referenceValue, identifierValue, listValue};
+ghost use Rattle.input.specs.Text.{nameIn};
+ghost use Rattle.parser.specs.Answers.{ListedRead, NumbersRead, ValueEnd, ValueAnswer, NumbersAnswer, PropertyKept, PropertyRead, HeadRead, PropertiesRead};
 use crate::Head;
 use crate::Kept;
 use crate::Listed;
@@ -106,7 +107,7 @@ fn end_value(bundle: &[u8], source: Source, value: PropertyValue, c: Cursor, n: 
 
 // Behind the first word of a value and its colon.
 fn read_joined_value(bundle: &[u8], source: Source, a: Range, c: Cursor, n: Tally) -> ValueRead
-    ensures { λ r. ⌜ ValueAnswer (now (bundle .entry)) source c n (joinedValue (now (bundle .entry)) a (spot source c)) r ⌝ }
+    ensures { λ r. ⌜ ValueAnswer (now (bundle .entry)) source c n (joinedValue (reading (now (bundle .entry))) (nameIn (now (bundle .entry)) a) (spot source c)) r ⌝ }
 {
     match read_identifier(bundle, source, c) {
         Word::NoWord(e) => ValueRead::BadValue(e),
@@ -122,7 +123,7 @@ fn read_joined_value(bundle: &[u8], source: Source, a: Range, c: Cursor, n: Tall
 
 // Behind the first word of a value that is no eval.
 fn read_word_value(bundle: &[u8], source: Source, a: Range, c: Cursor, n: Tally) -> ValueRead
-    ensures { λ r. ⌜ ValueAnswer (now (bundle .entry)) source c n (wordValue (now (bundle .entry)) a (spot source c)) r ⌝ }
+    ensures { λ r. ⌜ ValueAnswer (now (bundle .entry)) source c n (wordValue (reading (now (bundle .entry))) (nameIn (now (bundle .entry)) a) (spot source c)) r ⌝ }
 {
     match read_mandatory_token(bundle, source, c) {
         Mandatory::NoToken(e) => ValueRead::BadValue(e),
@@ -148,7 +149,7 @@ fn read_reference(
     colors: &[u32],
     known: usize,
 ) -> ValueRead
-    ensures { λ r. ⌜ ValueAnswer (now (bundle .entry)) source c n (referenceValue (now (bundle .entry)) name (colorsOf (now (bundle .entry)) (now (colors .entry)) known) (spot source c)) r ⌝ }
+    ensures { λ r. ⌜ ValueAnswer (now (bundle .entry)) source c n (referenceValue (reading (now (bundle .entry))) (colorsOf (now (bundle .entry)) (now (colors .entry)) known) (nameIn (now (bundle .entry)) name) (spot source c)) r ⌝ }
 {
     match find_color(bundle, colors, known, name) {
         At::Nowhere => ValueRead::BadValue(refuse_reached(PARSE, COLOR_REFERENCE, source, c)),
@@ -171,7 +172,7 @@ fn read_numbers_value(
     n: Tally,
     numbers: &mut [f64],
 ) -> ValueRead
-    ensures { λ r. ⌜ NumbersAnswer (now (bundle .entry)) source c n (now (numbers .entry)) (now (numbers .exit)) (listValue (now (bundle .entry)) x (spot source c)) r ⌝ }
+    ensures { λ r. ⌜ NumbersAnswer (now (bundle .entry)) source c n (now (numbers .entry)) (now (numbers .exit)) (λ k. numbersValue (reading (now (bundle .entry))) k x (spot source c)) r ⌝ }
 {
     match read_number_list(bundle, source, x, c, n, numbers) {
         Kept::Refused(e) => ValueRead::BadValue(e),
@@ -196,7 +197,7 @@ fn read_identifier_value(
     n: Tally,
     numbers: &mut [f64],
 ) -> ValueRead
-    ensures { λ r. ⌜ NumbersAnswer (now (bundle .entry)) source c n (now (numbers .entry)) (now (numbers .exit)) (identifierValue (now (bundle .entry)) a o (spot source c)) r ⌝ }
+    ensures { λ r. ⌜ NumbersAnswer (now (bundle .entry)) source c n (now (numbers .entry)) (now (numbers .exit)) (λ k. identifierValue (reading (now (bundle .entry))) k (nameIn (now (bundle .entry)) a) o (spot source c)) r ⌝ }
 {
     if is_eval(bundle, a) {
         return read_simple_eval(bundle, source, o, c, n, numbers);

@@ -1,11 +1,11 @@
 use Rattle.parser.proofs.Turns.{Goes, goes-start, goes-end, goes-on}
-use Rattle.parser.proofs.RuleLaws.{start-bad, start-body, start-colors, start-object, choice-none, choice-last, choice-next, rule-starts, ruleBody, ruleBlock, ruleObject, ruleLast, ruleNext, ruleChosen}
+use Rattle.parser.proofs.RuleLaws.{start-bad, start-body, start-colors, start-object, choice-none, choice-last, choice-next, rule-starts, ruleObject, ruleNext, ruleChosen}
 use Rattle.parser.proofs.Laws.{widen, after-reads}
 use Rattle.parser.specs.Answers.{Reads, refuses}
 use Rattle.input.specs.Text.{left, tokenOf}
 use Rattle.input.specs.Source.{spot, reading}
 use Rattle.input.specs.Lent.{lent, colorsOf}
-use Rattle.grammar.specs.Reader.{readRule}
+use Rattle.grammar.specs.Reader.{readBody, readBlock, readRule}
 use borrow.Author.Needs.{needs}
 use native.Mathlib.Omega.{arith}
 use lib.ListN.{length}
@@ -71,7 +71,7 @@ same-length-5 c = omega (arith, c .before .before .before .before .loop .inv .1 
 
 -- src/rule.rt:271:17
 returns : tie.Need-returns Inv-loop μ-loop
-returns c = λ f h. goes-end (Reads _ _) _ _ _ _ _ _ (c .before .before .before .before .loop .inv .0 f h) (λ k l. start-bad (Reads _ _ _ _ _) (rule-starts (now (c .before .before .before .before .before .before .before .before .before .before .before .before .args .bundle)) (suc k) (colorsOf (now (c .before .before .before .before .before .before .before .before .before .before .before .before .args .bundle)) (now (c .before .before .before .before .before .before .before .before .before .before .before .before .args .colors)) (c .before .before .before .before .before .before .before .before .before .before .before .before .args .n .colors)) (lent (c .before .before .before .before .loop .k) (c .before .before .before .before .loop .rules) (c .before .before .before .before .loop .selectors) (c .before .before .before .before .loop .tests) (c .before .before .before .before .loop .properties) (c .before .before .before .before .loop .numbers) (now (c .before .before .before .before .before .before .before .before .before .before .before .before .args .colors))) (tokenOf (now (c .before .before .before .before .before .before .before .before .before .before .before .before .args .bundle)) (c .before .before .before .before .loop .first)) (c .before .before .before .before .loop .begins) (spot (c .before .before .before .before .before .before .before .before .before .before .before .before .args .source) (c .before .before .before .before .loop .at)) (c .before .before .before .rule-start .ensures (lent (c .before .before .before .before .loop .k) (c .before .before .before .before .loop .rules) (c .before .before .before .before .loop .selectors) (c .before .before .before .before .loop .tests) (c .before .before .before .before .loop .properties) (c .before .before .before .before .loop .numbers) (now (c .before .before .before .before .before .before .before .before .before .before .before .before .args .colors))) (ruleBody (now (c .before .before .before .before .before .before .before .before .before .before .before .before .args .bundle)) (suc k) (colorsOf (now (c .before .before .before .before .before .before .before .before .before .before .before .before .args .bundle)) (now (c .before .before .before .before .before .before .before .before .before .before .before .before .args .colors)) (c .before .before .before .before .before .before .before .before .before .before .before .before .args .n .colors)) (spot (c .before .before .before .before .before .before .before .before .before .before .before .before .args .source) (c .before .before .before .before .loop .at)) (lent (c .before .before .before .before .loop .k) (c .before .before .before .before .loop .rules) (c .before .before .before .before .loop .selectors) (c .before .before .before .before .loop .tests) (c .before .before .before .before .loop .properties) (c .before .before .before .before .loop .numbers) (now (c .before .before .before .before .before .before .before .before .before .before .before .before .args .colors)))) (ruleBlock (now (c .before .before .before .before .before .before .before .before .before .before .before .before .args .bundle)) (suc k) (colorsOf (now (c .before .before .before .before .before .before .before .before .before .before .before .before .args .bundle)) (now (c .before .before .before .before .before .before .before .before .before .before .before .before .args .colors)) (c .before .before .before .before .before .before .before .before .before .before .before .before .args .n .colors)) (spot (c .before .before .before .before .before .before .before .before .before .before .before .before .args .source) (c .before .before .before .before .loop .at)) (lent (c .before .before .before .before .loop .k) (c .before .before .before .before .loop .rules) (c .before .before .before .before .loop .selectors) (c .before .before .before .before .loop .tests) (c .before .before .before .before .loop .properties) (c .before .before .before .before .loop .numbers) (now (c .before .before .before .before .before .before .before .before .before .before .before .before .args .colors)))) (ruleObject (now (c .before .before .before .before .before .before .before .before .before .before .before .before .args .bundle)) (suc k) (colorsOf (now (c .before .before .before .before .before .before .before .before .before .before .before .before .args .bundle)) (now (c .before .before .before .before .before .before .before .before .before .before .before .before .args .colors)) (c .before .before .before .before .before .before .before .before .before .before .before .before .args .n .colors)) (spot (c .before .before .before .before .before .before .before .before .before .before .before .before .args .source) (c .before .before .before .before .loop .at)) (lent (c .before .before .before .before .loop .k) (c .before .before .before .before .loop .rules) (c .before .before .before .before .loop .selectors) (c .before .before .before .before .loop .tests) (c .before .before .before .before .loop .properties) (c .before .before .before .before .loop .numbers) (now (c .before .before .before .before .before .before .before .before .before .before .before .before .args .colors)))) (ruleChosen (now (c .before .before .before .before .before .before .before .before .before .before .before .before .args .bundle)) (suc k) (colorsOf (now (c .before .before .before .before .before .before .before .before .before .before .before .before .args .bundle)) (now (c .before .before .before .before .before .before .before .before .before .before .before .before .args .colors)) (c .before .before .before .before .before .before .before .before .before .before .before .before .args .n .colors))))) (c .before .e .given .1) (λ e τ p. refuses p))
+returns c = λ f h. goes-end (Reads _ _) _ _ _ _ _ _ (c .before .before .before .before .loop .inv .0 f h) (λ k l. start-bad (Reads _ _ _ _ _) (rule-starts (now (c .before .before .before .before .before .before .before .before .before .before .before .before .args .bundle)) (suc k) (colorsOf (now (c .before .before .before .before .before .before .before .before .before .before .before .before .args .bundle)) (now (c .before .before .before .before .before .before .before .before .before .before .before .before .args .colors)) (c .before .before .before .before .before .before .before .before .before .before .before .before .args .n .colors)) (lent (c .before .before .before .before .loop .k) (c .before .before .before .before .loop .rules) (c .before .before .before .before .loop .selectors) (c .before .before .before .before .loop .tests) (c .before .before .before .before .loop .properties) (c .before .before .before .before .loop .numbers) (now (c .before .before .before .before .before .before .before .before .before .before .before .before .args .colors))) (tokenOf (now (c .before .before .before .before .before .before .before .before .before .before .before .before .args .bundle)) (c .before .before .before .before .loop .first)) (c .before .before .before .before .loop .begins) (spot (c .before .before .before .before .before .before .before .before .before .before .before .before .args .source) (c .before .before .before .before .loop .at)) (c .before .before .before .rule-start .ensures (lent (c .before .before .before .before .loop .k) (c .before .before .before .before .loop .rules) (c .before .before .before .before .loop .selectors) (c .before .before .before .before .loop .tests) (c .before .before .before .before .loop .properties) (c .before .before .before .before .loop .numbers) (now (c .before .before .before .before .before .before .before .before .before .before .before .before .args .colors))) (readBody (reading (now (c .before .before .before .before .before .before .before .before .before .before .before .before .args .bundle))) (suc k) (colorsOf (now (c .before .before .before .before .before .before .before .before .before .before .before .before .args .bundle)) (now (c .before .before .before .before .before .before .before .before .before .before .before .before .args .colors)) (c .before .before .before .before .before .before .before .before .before .before .before .before .args .n .colors)) [] (spot (c .before .before .before .before .before .before .before .before .before .before .before .before .args .source) (c .before .before .before .before .loop .at)) (lent (c .before .before .before .before .loop .k) (c .before .before .before .before .loop .rules) (c .before .before .before .before .loop .selectors) (c .before .before .before .before .loop .tests) (c .before .before .before .before .loop .properties) (c .before .before .before .before .loop .numbers) (now (c .before .before .before .before .before .before .before .before .before .before .before .before .args .colors)))) (readBlock (reading (now (c .before .before .before .before .before .before .before .before .before .before .before .before .args .bundle))) (suc k) (spot (c .before .before .before .before .before .before .before .before .before .before .before .before .args .source) (c .before .before .before .before .loop .at)) (lent (c .before .before .before .before .loop .k) (c .before .before .before .before .loop .rules) (c .before .before .before .before .loop .selectors) (c .before .before .before .before .loop .tests) (c .before .before .before .before .loop .properties) (c .before .before .before .before .loop .numbers) (now (c .before .before .before .before .before .before .before .before .before .before .before .before .args .colors)))) (ruleObject (now (c .before .before .before .before .before .before .before .before .before .before .before .before .args .bundle)) (suc k) (colorsOf (now (c .before .before .before .before .before .before .before .before .before .before .before .before .args .bundle)) (now (c .before .before .before .before .before .before .before .before .before .before .before .before .args .colors)) (c .before .before .before .before .before .before .before .before .before .before .before .before .args .n .colors)) (spot (c .before .before .before .before .before .before .before .before .before .before .before .before .args .source) (c .before .before .before .before .loop .at)) (lent (c .before .before .before .before .loop .k) (c .before .before .before .before .loop .rules) (c .before .before .before .before .loop .selectors) (c .before .before .before .before .loop .tests) (c .before .before .before .before .loop .properties) (c .before .before .before .before .loop .numbers) (now (c .before .before .before .before .before .before .before .before .before .before .before .before .args .colors)))) (ruleChosen (now (c .before .before .before .before .before .before .before .before .before .before .before .before .args .bundle)) (suc k) (colorsOf (now (c .before .before .before .before .before .before .before .before .before .before .before .before .args .bundle)) (now (c .before .before .before .before .before .before .before .before .before .before .before .before .args .colors)) (c .before .before .before .before .before .before .before .before .before .before .before .before .args .n .colors))))) (c .before .e .given .1) (λ e τ p. refuses p))
 
 -- src/rule.rt:274:57
 enum-told : tie.Need-enum-told Inv-loop μ-loop
@@ -103,7 +103,7 @@ same-length-10 c = omega (arith, c .before .before .before .before .before .befo
 
 -- src/rule.rt:274:17
 returns-2 : tie.Need-returns-2 Inv-loop μ-loop
-returns-2 c = λ f h. goes-end (Reads _ _) _ _ _ _ _ _ (c .before .before .before .before .before .before .before .before .before .before .before .before .before .loop .inv .0 f h) (λ k l. start-body (Reads _ _ _ _ _) (rule-starts (now (c .before .before .before .before .before .before .before .before .before .before .before .before .before .before .before .before .before .before .before .before .before .args .bundle)) (suc k) (colorsOf (now (c .before .before .before .before .before .before .before .before .before .before .before .before .before .before .before .before .before .before .before .before .before .args .bundle)) (now (c .before .before .before .before .before .before .before .before .before .before .before .before .before .before .before .before .before .before .before .before .before .args .colors)) (c .before .before .before .before .before .before .before .before .before .before .before .before .before .before .before .before .before .before .before .before .before .args .n .colors)) (lent (c .before .before .before .before .before .before .before .before .before .before .before .before .before .loop .k) (c .before .before .before .before .before .before .before .before .before .before .before .before .before .loop .rules) (c .before .before .before .before .before .before .before .before .before .before .before .before .before .loop .selectors) (c .before .before .before .before .before .before .before .before .before .before .before .before .before .loop .tests) (c .before .before .before .before .before .before .before .before .before .before .before .before .before .loop .properties) (c .before .before .before .before .before .before .before .before .before .before .before .before .before .loop .numbers) (now (c .before .before .before .before .before .before .before .before .before .before .before .before .before .before .before .before .before .before .before .before .before .args .colors))) (tokenOf (now (c .before .before .before .before .before .before .before .before .before .before .before .before .before .before .before .before .before .before .before .before .before .args .bundle)) (c .before .before .before .before .before .before .before .before .before .before .before .before .before .loop .first)) (c .before .before .before .before .before .before .before .before .before .before .before .before .before .loop .begins) (spot (c .before .before .before .before .before .before .before .before .before .before .before .before .before .before .before .before .before .before .before .before .before .args .source) (c .before .before .before .before .before .before .before .before .before .before .before .before .before .loop .at)) (c .before .before .before .before .before .before .before .before .before .before .before .before .rule-start .ensures (lent (c .before .before .before .before .before .before .before .before .before .before .before .before .before .loop .k) (c .before .before .before .before .before .before .before .before .before .before .before .before .before .loop .rules) (c .before .before .before .before .before .before .before .before .before .before .before .before .before .loop .selectors) (c .before .before .before .before .before .before .before .before .before .before .before .before .before .loop .tests) (c .before .before .before .before .before .before .before .before .before .before .before .before .before .loop .properties) (c .before .before .before .before .before .before .before .before .before .before .before .before .before .loop .numbers) (now (c .before .before .before .before .before .before .before .before .before .before .before .before .before .before .before .before .before .before .before .before .before .args .colors))) (ruleBody (now (c .before .before .before .before .before .before .before .before .before .before .before .before .before .before .before .before .before .before .before .before .before .args .bundle)) (suc k) (colorsOf (now (c .before .before .before .before .before .before .before .before .before .before .before .before .before .before .before .before .before .before .before .before .before .args .bundle)) (now (c .before .before .before .before .before .before .before .before .before .before .before .before .before .before .before .before .before .before .before .before .before .args .colors)) (c .before .before .before .before .before .before .before .before .before .before .before .before .before .before .before .before .before .before .before .before .before .args .n .colors)) (spot (c .before .before .before .before .before .before .before .before .before .before .before .before .before .before .before .before .before .before .before .before .before .args .source) (c .before .before .before .before .before .before .before .before .before .before .before .before .before .loop .at)) (lent (c .before .before .before .before .before .before .before .before .before .before .before .before .before .loop .k) (c .before .before .before .before .before .before .before .before .before .before .before .before .before .loop .rules) (c .before .before .before .before .before .before .before .before .before .before .before .before .before .loop .selectors) (c .before .before .before .before .before .before .before .before .before .before .before .before .before .loop .tests) (c .before .before .before .before .before .before .before .before .before .before .before .before .before .loop .properties) (c .before .before .before .before .before .before .before .before .before .before .before .before .before .loop .numbers) (now (c .before .before .before .before .before .before .before .before .before .before .before .before .before .before .before .before .before .before .before .before .before .args .colors)))) (ruleBlock (now (c .before .before .before .before .before .before .before .before .before .before .before .before .before .before .before .before .before .before .before .before .before .args .bundle)) (suc k) (colorsOf (now (c .before .before .before .before .before .before .before .before .before .before .before .before .before .before .before .before .before .before .before .before .before .args .bundle)) (now (c .before .before .before .before .before .before .before .before .before .before .before .before .before .before .before .before .before .before .before .before .before .args .colors)) (c .before .before .before .before .before .before .before .before .before .before .before .before .before .before .before .before .before .before .before .before .before .args .n .colors)) (spot (c .before .before .before .before .before .before .before .before .before .before .before .before .before .before .before .before .before .before .before .before .before .args .source) (c .before .before .before .before .before .before .before .before .before .before .before .before .before .loop .at)) (lent (c .before .before .before .before .before .before .before .before .before .before .before .before .before .loop .k) (c .before .before .before .before .before .before .before .before .before .before .before .before .before .loop .rules) (c .before .before .before .before .before .before .before .before .before .before .before .before .before .loop .selectors) (c .before .before .before .before .before .before .before .before .before .before .before .before .before .loop .tests) (c .before .before .before .before .before .before .before .before .before .before .before .before .before .loop .properties) (c .before .before .before .before .before .before .before .before .before .before .before .before .before .loop .numbers) (now (c .before .before .before .before .before .before .before .before .before .before .before .before .before .before .before .before .before .before .before .before .before .args .colors)))) (ruleObject (now (c .before .before .before .before .before .before .before .before .before .before .before .before .before .before .before .before .before .before .before .before .before .args .bundle)) (suc k) (colorsOf (now (c .before .before .before .before .before .before .before .before .before .before .before .before .before .before .before .before .before .before .before .before .before .args .bundle)) (now (c .before .before .before .before .before .before .before .before .before .before .before .before .before .before .before .before .before .before .before .before .before .args .colors)) (c .before .before .before .before .before .before .before .before .before .before .before .before .before .before .before .before .before .before .before .before .before .args .n .colors)) (spot (c .before .before .before .before .before .before .before .before .before .before .before .before .before .before .before .before .before .before .before .before .before .args .source) (c .before .before .before .before .before .before .before .before .before .before .before .before .before .loop .at)) (lent (c .before .before .before .before .before .before .before .before .before .before .before .before .before .loop .k) (c .before .before .before .before .before .before .before .before .before .before .before .before .before .loop .rules) (c .before .before .before .before .before .before .before .before .before .before .before .before .before .loop .selectors) (c .before .before .before .before .before .before .before .before .before .before .before .before .before .loop .tests) (c .before .before .before .before .before .before .before .before .before .before .before .before .before .loop .properties) (c .before .before .before .before .before .before .before .before .before .before .before .before .before .loop .numbers) (now (c .before .before .before .before .before .before .before .before .before .before .before .before .before .before .before .before .before .before .before .before .before .args .colors)))) (ruleChosen (now (c .before .before .before .before .before .before .before .before .before .before .before .before .before .before .before .before .before .before .before .before .before .args .bundle)) (suc k) (colorsOf (now (c .before .before .before .before .before .before .before .before .before .before .before .before .before .before .before .before .before .before .before .before .before .args .bundle)) (now (c .before .before .before .before .before .before .before .before .before .before .before .before .before .before .before .before .before .before .before .before .before .args .colors)) (c .before .before .before .before .before .before .before .before .before .before .before .before .before .before .before .before .before .before .before .before .before .args .n .colors))))) (c .before .before .before .before .before .before .before .before .before .before .enum-told .given .1) (c .before .before .before .before .before .before .read-body .ensures (lent (c .before .before .before .before .before .before .before .before .before .before .before .before .before .loop .k) (c .before .before .before .before .before .before .before .before .before .before .before .before .before .loop .rules) (c .before .before .before .before .before .before .before .before .before .before .before .before .before .loop .selectors) (c .before .before .before .before .before .before .before .before .before .before .before .before .before .loop .tests) (c .before .before .before .before .before .before .before .before .before .before .before .before .before .loop .properties) (c .before .before .before .before .before .before .before .before .before .before .before .before .before .loop .numbers) (now (c .before .before .before .before .before .before .before .before .before .before .before .before .before .before .before .before .before .before .before .before .before .args .colors))) (suc k) [] (omega arith)))
+returns-2 c = λ f h. goes-end (Reads _ _) _ _ _ _ _ _ (c .before .before .before .before .before .before .before .before .before .before .before .before .before .loop .inv .0 f h) (λ k l. start-body (Reads _ _ _ _ _) (rule-starts (now (c .before .before .before .before .before .before .before .before .before .before .before .before .before .before .before .before .before .before .before .before .before .args .bundle)) (suc k) (colorsOf (now (c .before .before .before .before .before .before .before .before .before .before .before .before .before .before .before .before .before .before .before .before .before .args .bundle)) (now (c .before .before .before .before .before .before .before .before .before .before .before .before .before .before .before .before .before .before .before .before .before .args .colors)) (c .before .before .before .before .before .before .before .before .before .before .before .before .before .before .before .before .before .before .before .before .before .args .n .colors)) (lent (c .before .before .before .before .before .before .before .before .before .before .before .before .before .loop .k) (c .before .before .before .before .before .before .before .before .before .before .before .before .before .loop .rules) (c .before .before .before .before .before .before .before .before .before .before .before .before .before .loop .selectors) (c .before .before .before .before .before .before .before .before .before .before .before .before .before .loop .tests) (c .before .before .before .before .before .before .before .before .before .before .before .before .before .loop .properties) (c .before .before .before .before .before .before .before .before .before .before .before .before .before .loop .numbers) (now (c .before .before .before .before .before .before .before .before .before .before .before .before .before .before .before .before .before .before .before .before .before .args .colors))) (tokenOf (now (c .before .before .before .before .before .before .before .before .before .before .before .before .before .before .before .before .before .before .before .before .before .args .bundle)) (c .before .before .before .before .before .before .before .before .before .before .before .before .before .loop .first)) (c .before .before .before .before .before .before .before .before .before .before .before .before .before .loop .begins) (spot (c .before .before .before .before .before .before .before .before .before .before .before .before .before .before .before .before .before .before .before .before .before .args .source) (c .before .before .before .before .before .before .before .before .before .before .before .before .before .loop .at)) (c .before .before .before .before .before .before .before .before .before .before .before .before .rule-start .ensures (lent (c .before .before .before .before .before .before .before .before .before .before .before .before .before .loop .k) (c .before .before .before .before .before .before .before .before .before .before .before .before .before .loop .rules) (c .before .before .before .before .before .before .before .before .before .before .before .before .before .loop .selectors) (c .before .before .before .before .before .before .before .before .before .before .before .before .before .loop .tests) (c .before .before .before .before .before .before .before .before .before .before .before .before .before .loop .properties) (c .before .before .before .before .before .before .before .before .before .before .before .before .before .loop .numbers) (now (c .before .before .before .before .before .before .before .before .before .before .before .before .before .before .before .before .before .before .before .before .before .args .colors))) (readBody (reading (now (c .before .before .before .before .before .before .before .before .before .before .before .before .before .before .before .before .before .before .before .before .before .args .bundle))) (suc k) (colorsOf (now (c .before .before .before .before .before .before .before .before .before .before .before .before .before .before .before .before .before .before .before .before .before .args .bundle)) (now (c .before .before .before .before .before .before .before .before .before .before .before .before .before .before .before .before .before .before .before .before .before .args .colors)) (c .before .before .before .before .before .before .before .before .before .before .before .before .before .before .before .before .before .before .before .before .before .args .n .colors)) [] (spot (c .before .before .before .before .before .before .before .before .before .before .before .before .before .before .before .before .before .before .before .before .before .args .source) (c .before .before .before .before .before .before .before .before .before .before .before .before .before .loop .at)) (lent (c .before .before .before .before .before .before .before .before .before .before .before .before .before .loop .k) (c .before .before .before .before .before .before .before .before .before .before .before .before .before .loop .rules) (c .before .before .before .before .before .before .before .before .before .before .before .before .before .loop .selectors) (c .before .before .before .before .before .before .before .before .before .before .before .before .before .loop .tests) (c .before .before .before .before .before .before .before .before .before .before .before .before .before .loop .properties) (c .before .before .before .before .before .before .before .before .before .before .before .before .before .loop .numbers) (now (c .before .before .before .before .before .before .before .before .before .before .before .before .before .before .before .before .before .before .before .before .before .args .colors)))) (readBlock (reading (now (c .before .before .before .before .before .before .before .before .before .before .before .before .before .before .before .before .before .before .before .before .before .args .bundle))) (suc k) (spot (c .before .before .before .before .before .before .before .before .before .before .before .before .before .before .before .before .before .before .before .before .before .args .source) (c .before .before .before .before .before .before .before .before .before .before .before .before .before .loop .at)) (lent (c .before .before .before .before .before .before .before .before .before .before .before .before .before .loop .k) (c .before .before .before .before .before .before .before .before .before .before .before .before .before .loop .rules) (c .before .before .before .before .before .before .before .before .before .before .before .before .before .loop .selectors) (c .before .before .before .before .before .before .before .before .before .before .before .before .before .loop .tests) (c .before .before .before .before .before .before .before .before .before .before .before .before .before .loop .properties) (c .before .before .before .before .before .before .before .before .before .before .before .before .before .loop .numbers) (now (c .before .before .before .before .before .before .before .before .before .before .before .before .before .before .before .before .before .before .before .before .before .args .colors)))) (ruleObject (now (c .before .before .before .before .before .before .before .before .before .before .before .before .before .before .before .before .before .before .before .before .before .args .bundle)) (suc k) (colorsOf (now (c .before .before .before .before .before .before .before .before .before .before .before .before .before .before .before .before .before .before .before .before .before .args .bundle)) (now (c .before .before .before .before .before .before .before .before .before .before .before .before .before .before .before .before .before .before .before .before .before .args .colors)) (c .before .before .before .before .before .before .before .before .before .before .before .before .before .before .before .before .before .before .before .before .before .args .n .colors)) (spot (c .before .before .before .before .before .before .before .before .before .before .before .before .before .before .before .before .before .before .before .before .before .args .source) (c .before .before .before .before .before .before .before .before .before .before .before .before .before .loop .at)) (lent (c .before .before .before .before .before .before .before .before .before .before .before .before .before .loop .k) (c .before .before .before .before .before .before .before .before .before .before .before .before .before .loop .rules) (c .before .before .before .before .before .before .before .before .before .before .before .before .before .loop .selectors) (c .before .before .before .before .before .before .before .before .before .before .before .before .before .loop .tests) (c .before .before .before .before .before .before .before .before .before .before .before .before .before .loop .properties) (c .before .before .before .before .before .before .before .before .before .before .before .before .before .loop .numbers) (now (c .before .before .before .before .before .before .before .before .before .before .before .before .before .before .before .before .before .before .before .before .before .args .colors)))) (ruleChosen (now (c .before .before .before .before .before .before .before .before .before .before .before .before .before .before .before .before .before .before .before .before .before .args .bundle)) (suc k) (colorsOf (now (c .before .before .before .before .before .before .before .before .before .before .before .before .before .before .before .before .before .before .before .before .before .args .bundle)) (now (c .before .before .before .before .before .before .before .before .before .before .before .before .before .before .before .before .before .before .before .before .before .args .colors)) (c .before .before .before .before .before .before .before .before .before .before .before .before .before .before .before .before .before .before .before .before .before .args .n .colors))))) (c .before .before .before .before .before .before .before .before .before .before .enum-told .given .1) (c .before .before .before .before .before .before .read-body .ensures (lent (c .before .before .before .before .before .before .before .before .before .before .before .before .before .loop .k) (c .before .before .before .before .before .before .before .before .before .before .before .before .before .loop .rules) (c .before .before .before .before .before .before .before .before .before .before .before .before .before .loop .selectors) (c .before .before .before .before .before .before .before .before .before .before .before .before .before .loop .tests) (c .before .before .before .before .before .before .before .before .before .before .before .before .before .loop .properties) (c .before .before .before .before .before .before .before .before .before .before .before .before .before .loop .numbers) (now (c .before .before .before .before .before .before .before .before .before .before .before .before .before .before .before .before .before .before .before .before .before .args .colors))) (suc k) [] (omega arith)))
 
 -- src/rule.rt:277:58
 enum-told-2 : tie.Need-enum-told-2 Inv-loop μ-loop
@@ -135,7 +135,7 @@ same-length-15 c = omega (arith, c .before .before .before .before .before .befo
 
 -- src/rule.rt:277:17
 returns-3 : tie.Need-returns-3 Inv-loop μ-loop
-returns-3 c = λ f h. goes-end (Reads _ _) _ _ _ _ _ _ (c .before .before .before .before .before .before .before .loop .inv .0 f h) (λ k l. start-colors (Reads _ _ _ _ _) (rule-starts (now (c .before .before .before .before .before .before .before .before .before .before .before .before .before .before .before .args .bundle)) (suc k) (colorsOf (now (c .before .before .before .before .before .before .before .before .before .before .before .before .before .before .before .args .bundle)) (now (c .before .before .before .before .before .before .before .before .before .before .before .before .before .before .before .args .colors)) (c .before .before .before .before .before .before .before .before .before .before .before .before .before .before .before .args .n .colors)) (lent (c .before .before .before .before .before .before .before .loop .k) (c .before .before .before .before .before .before .before .loop .rules) (c .before .before .before .before .before .before .before .loop .selectors) (c .before .before .before .before .before .before .before .loop .tests) (c .before .before .before .before .before .before .before .loop .properties) (c .before .before .before .before .before .before .before .loop .numbers) (now (c .before .before .before .before .before .before .before .before .before .before .before .before .before .before .before .args .colors))) (tokenOf (now (c .before .before .before .before .before .before .before .before .before .before .before .before .before .before .before .args .bundle)) (c .before .before .before .before .before .before .before .loop .first)) (c .before .before .before .before .before .before .before .loop .begins) (spot (c .before .before .before .before .before .before .before .before .before .before .before .before .before .before .before .args .source) (c .before .before .before .before .before .before .before .loop .at)) (c .before .before .before .before .before .before .rule-start .ensures (lent (c .before .before .before .before .before .before .before .loop .k) (c .before .before .before .before .before .before .before .loop .rules) (c .before .before .before .before .before .before .before .loop .selectors) (c .before .before .before .before .before .before .before .loop .tests) (c .before .before .before .before .before .before .before .loop .properties) (c .before .before .before .before .before .before .before .loop .numbers) (now (c .before .before .before .before .before .before .before .before .before .before .before .before .before .before .before .args .colors))) (ruleBody (now (c .before .before .before .before .before .before .before .before .before .before .before .before .before .before .before .args .bundle)) (suc k) (colorsOf (now (c .before .before .before .before .before .before .before .before .before .before .before .before .before .before .before .args .bundle)) (now (c .before .before .before .before .before .before .before .before .before .before .before .before .before .before .before .args .colors)) (c .before .before .before .before .before .before .before .before .before .before .before .before .before .before .before .args .n .colors)) (spot (c .before .before .before .before .before .before .before .before .before .before .before .before .before .before .before .args .source) (c .before .before .before .before .before .before .before .loop .at)) (lent (c .before .before .before .before .before .before .before .loop .k) (c .before .before .before .before .before .before .before .loop .rules) (c .before .before .before .before .before .before .before .loop .selectors) (c .before .before .before .before .before .before .before .loop .tests) (c .before .before .before .before .before .before .before .loop .properties) (c .before .before .before .before .before .before .before .loop .numbers) (now (c .before .before .before .before .before .before .before .before .before .before .before .before .before .before .before .args .colors)))) (ruleBlock (now (c .before .before .before .before .before .before .before .before .before .before .before .before .before .before .before .args .bundle)) (suc k) (colorsOf (now (c .before .before .before .before .before .before .before .before .before .before .before .before .before .before .before .args .bundle)) (now (c .before .before .before .before .before .before .before .before .before .before .before .before .before .before .before .args .colors)) (c .before .before .before .before .before .before .before .before .before .before .before .before .before .before .before .args .n .colors)) (spot (c .before .before .before .before .before .before .before .before .before .before .before .before .before .before .before .args .source) (c .before .before .before .before .before .before .before .loop .at)) (lent (c .before .before .before .before .before .before .before .loop .k) (c .before .before .before .before .before .before .before .loop .rules) (c .before .before .before .before .before .before .before .loop .selectors) (c .before .before .before .before .before .before .before .loop .tests) (c .before .before .before .before .before .before .before .loop .properties) (c .before .before .before .before .before .before .before .loop .numbers) (now (c .before .before .before .before .before .before .before .before .before .before .before .before .before .before .before .args .colors)))) (ruleObject (now (c .before .before .before .before .before .before .before .before .before .before .before .before .before .before .before .args .bundle)) (suc k) (colorsOf (now (c .before .before .before .before .before .before .before .before .before .before .before .before .before .before .before .args .bundle)) (now (c .before .before .before .before .before .before .before .before .before .before .before .before .before .before .before .args .colors)) (c .before .before .before .before .before .before .before .before .before .before .before .before .before .before .before .args .n .colors)) (spot (c .before .before .before .before .before .before .before .before .before .before .before .before .before .before .before .args .source) (c .before .before .before .before .before .before .before .loop .at)) (lent (c .before .before .before .before .before .before .before .loop .k) (c .before .before .before .before .before .before .before .loop .rules) (c .before .before .before .before .before .before .before .loop .selectors) (c .before .before .before .before .before .before .before .loop .tests) (c .before .before .before .before .before .before .before .loop .properties) (c .before .before .before .before .before .before .before .loop .numbers) (now (c .before .before .before .before .before .before .before .before .before .before .before .before .before .before .before .args .colors)))) (ruleChosen (now (c .before .before .before .before .before .before .before .before .before .before .before .before .before .before .before .args .bundle)) (suc k) (colorsOf (now (c .before .before .before .before .before .before .before .before .before .before .before .before .before .before .before .args .bundle)) (now (c .before .before .before .before .before .before .before .before .before .before .before .before .before .before .before .args .colors)) (c .before .before .before .before .before .before .before .before .before .before .before .before .before .before .before .args .n .colors))))) (c .before .before .before .before .enum-told2 .given .1) (c .before .before .read-block .ensures (lent (c .before .before .before .before .before .before .before .loop .k) (c .before .before .before .before .before .before .before .loop .rules) (c .before .before .before .before .before .before .before .loop .selectors) (c .before .before .before .before .before .before .before .loop .tests) (c .before .before .before .before .before .before .before .loop .properties) (c .before .before .before .before .before .before .before .loop .numbers) (now (c .before .before .before .before .before .before .before .before .before .before .before .before .before .before .before .args .colors))) (suc k) (omega arith)))
+returns-3 c = λ f h. goes-end (Reads _ _) _ _ _ _ _ _ (c .before .before .before .before .before .before .before .loop .inv .0 f h) (λ k l. start-colors (Reads _ _ _ _ _) (rule-starts (now (c .before .before .before .before .before .before .before .before .before .before .before .before .before .before .before .args .bundle)) (suc k) (colorsOf (now (c .before .before .before .before .before .before .before .before .before .before .before .before .before .before .before .args .bundle)) (now (c .before .before .before .before .before .before .before .before .before .before .before .before .before .before .before .args .colors)) (c .before .before .before .before .before .before .before .before .before .before .before .before .before .before .before .args .n .colors)) (lent (c .before .before .before .before .before .before .before .loop .k) (c .before .before .before .before .before .before .before .loop .rules) (c .before .before .before .before .before .before .before .loop .selectors) (c .before .before .before .before .before .before .before .loop .tests) (c .before .before .before .before .before .before .before .loop .properties) (c .before .before .before .before .before .before .before .loop .numbers) (now (c .before .before .before .before .before .before .before .before .before .before .before .before .before .before .before .args .colors))) (tokenOf (now (c .before .before .before .before .before .before .before .before .before .before .before .before .before .before .before .args .bundle)) (c .before .before .before .before .before .before .before .loop .first)) (c .before .before .before .before .before .before .before .loop .begins) (spot (c .before .before .before .before .before .before .before .before .before .before .before .before .before .before .before .args .source) (c .before .before .before .before .before .before .before .loop .at)) (c .before .before .before .before .before .before .rule-start .ensures (lent (c .before .before .before .before .before .before .before .loop .k) (c .before .before .before .before .before .before .before .loop .rules) (c .before .before .before .before .before .before .before .loop .selectors) (c .before .before .before .before .before .before .before .loop .tests) (c .before .before .before .before .before .before .before .loop .properties) (c .before .before .before .before .before .before .before .loop .numbers) (now (c .before .before .before .before .before .before .before .before .before .before .before .before .before .before .before .args .colors))) (readBody (reading (now (c .before .before .before .before .before .before .before .before .before .before .before .before .before .before .before .args .bundle))) (suc k) (colorsOf (now (c .before .before .before .before .before .before .before .before .before .before .before .before .before .before .before .args .bundle)) (now (c .before .before .before .before .before .before .before .before .before .before .before .before .before .before .before .args .colors)) (c .before .before .before .before .before .before .before .before .before .before .before .before .before .before .before .args .n .colors)) [] (spot (c .before .before .before .before .before .before .before .before .before .before .before .before .before .before .before .args .source) (c .before .before .before .before .before .before .before .loop .at)) (lent (c .before .before .before .before .before .before .before .loop .k) (c .before .before .before .before .before .before .before .loop .rules) (c .before .before .before .before .before .before .before .loop .selectors) (c .before .before .before .before .before .before .before .loop .tests) (c .before .before .before .before .before .before .before .loop .properties) (c .before .before .before .before .before .before .before .loop .numbers) (now (c .before .before .before .before .before .before .before .before .before .before .before .before .before .before .before .args .colors)))) (readBlock (reading (now (c .before .before .before .before .before .before .before .before .before .before .before .before .before .before .before .args .bundle))) (suc k) (spot (c .before .before .before .before .before .before .before .before .before .before .before .before .before .before .before .args .source) (c .before .before .before .before .before .before .before .loop .at)) (lent (c .before .before .before .before .before .before .before .loop .k) (c .before .before .before .before .before .before .before .loop .rules) (c .before .before .before .before .before .before .before .loop .selectors) (c .before .before .before .before .before .before .before .loop .tests) (c .before .before .before .before .before .before .before .loop .properties) (c .before .before .before .before .before .before .before .loop .numbers) (now (c .before .before .before .before .before .before .before .before .before .before .before .before .before .before .before .args .colors)))) (ruleObject (now (c .before .before .before .before .before .before .before .before .before .before .before .before .before .before .before .args .bundle)) (suc k) (colorsOf (now (c .before .before .before .before .before .before .before .before .before .before .before .before .before .before .before .args .bundle)) (now (c .before .before .before .before .before .before .before .before .before .before .before .before .before .before .before .args .colors)) (c .before .before .before .before .before .before .before .before .before .before .before .before .before .before .before .args .n .colors)) (spot (c .before .before .before .before .before .before .before .before .before .before .before .before .before .before .before .args .source) (c .before .before .before .before .before .before .before .loop .at)) (lent (c .before .before .before .before .before .before .before .loop .k) (c .before .before .before .before .before .before .before .loop .rules) (c .before .before .before .before .before .before .before .loop .selectors) (c .before .before .before .before .before .before .before .loop .tests) (c .before .before .before .before .before .before .before .loop .properties) (c .before .before .before .before .before .before .before .loop .numbers) (now (c .before .before .before .before .before .before .before .before .before .before .before .before .before .before .before .args .colors)))) (ruleChosen (now (c .before .before .before .before .before .before .before .before .before .before .before .before .before .before .before .args .bundle)) (suc k) (colorsOf (now (c .before .before .before .before .before .before .before .before .before .before .before .before .before .before .before .args .bundle)) (now (c .before .before .before .before .before .before .before .before .before .before .before .before .before .before .before .args .colors)) (c .before .before .before .before .before .before .before .before .before .before .before .before .before .before .before .args .n .colors))))) (c .before .before .before .before .enum-told2 .given .1) (c .before .before .read-block .ensures (lent (c .before .before .before .before .before .before .before .loop .k) (c .before .before .before .before .before .before .before .loop .rules) (c .before .before .before .before .before .before .before .loop .selectors) (c .before .before .before .before .before .before .before .loop .tests) (c .before .before .before .before .before .before .before .loop .properties) (c .before .before .before .before .before .before .before .loop .numbers) (now (c .before .before .before .before .before .before .before .before .before .before .before .before .before .before .before .args .colors))) (suc k) (omega arith)))
 
 -- src/rule.rt:279:27
 enum-known-kind : tie.Need-enum-known-kind Inv-loop μ-loop
@@ -171,7 +171,7 @@ same-length-20 c = omega (arith, c .before .before .before .before .before .befo
 
 -- src/rule.rt:290:21
 returns-4 : tie.Need-returns-4 Inv-loop μ-loop
-returns-4 c = λ f h. goes-end (Reads _ _) _ _ _ _ _ _ (c .before .before .before .before .before .before .before .before .before .before .before .before .before .before .before .before .before .loop .inv .0 f h) (λ k l. start-object (Reads _ _ _ _ _) (rule-starts (now (c .before .before .before .before .before .before .before .before .before .before .before .before .before .before .before .before .before .before .before .before .before .before .before .before .before .args .bundle)) (suc k) (colorsOf (now (c .before .before .before .before .before .before .before .before .before .before .before .before .before .before .before .before .before .before .before .before .before .before .before .before .before .args .bundle)) (now (c .before .before .before .before .before .before .before .before .before .before .before .before .before .before .before .before .before .before .before .before .before .before .before .before .before .args .colors)) (c .before .before .before .before .before .before .before .before .before .before .before .before .before .before .before .before .before .before .before .before .before .before .before .before .before .args .n .colors)) (lent (c .before .before .before .before .before .before .before .before .before .before .before .before .before .before .before .before .before .loop .k) (c .before .before .before .before .before .before .before .before .before .before .before .before .before .before .before .before .before .loop .rules) (c .before .before .before .before .before .before .before .before .before .before .before .before .before .before .before .before .before .loop .selectors) (c .before .before .before .before .before .before .before .before .before .before .before .before .before .before .before .before .before .loop .tests) (c .before .before .before .before .before .before .before .before .before .before .before .before .before .before .before .before .before .loop .properties) (c .before .before .before .before .before .before .before .before .before .before .before .before .before .before .before .before .before .loop .numbers) (now (c .before .before .before .before .before .before .before .before .before .before .before .before .before .before .before .before .before .before .before .before .before .before .before .before .before .args .colors))) (tokenOf (now (c .before .before .before .before .before .before .before .before .before .before .before .before .before .before .before .before .before .before .before .before .before .before .before .before .before .args .bundle)) (c .before .before .before .before .before .before .before .before .before .before .before .before .before .before .before .before .before .loop .first)) (c .before .before .before .before .before .before .before .before .before .before .before .before .before .before .before .before .before .loop .begins) (spot (c .before .before .before .before .before .before .before .before .before .before .before .before .before .before .before .before .before .before .before .before .before .before .before .before .before .args .source) (c .before .before .before .before .before .before .before .before .before .before .before .before .before .before .before .before .before .loop .at)) (c .before .before .before .before .before .before .before .before .before .before .before .before .before .before .before .before .rule-start .ensures (lent (c .before .before .before .before .before .before .before .before .before .before .before .before .before .before .before .before .before .loop .k) (c .before .before .before .before .before .before .before .before .before .before .before .before .before .before .before .before .before .loop .rules) (c .before .before .before .before .before .before .before .before .before .before .before .before .before .before .before .before .before .loop .selectors) (c .before .before .before .before .before .before .before .before .before .before .before .before .before .before .before .before .before .loop .tests) (c .before .before .before .before .before .before .before .before .before .before .before .before .before .before .before .before .before .loop .properties) (c .before .before .before .before .before .before .before .before .before .before .before .before .before .before .before .before .before .loop .numbers) (now (c .before .before .before .before .before .before .before .before .before .before .before .before .before .before .before .before .before .before .before .before .before .before .before .before .before .args .colors))) (ruleBody (now (c .before .before .before .before .before .before .before .before .before .before .before .before .before .before .before .before .before .before .before .before .before .before .before .before .before .args .bundle)) (suc k) (colorsOf (now (c .before .before .before .before .before .before .before .before .before .before .before .before .before .before .before .before .before .before .before .before .before .before .before .before .before .args .bundle)) (now (c .before .before .before .before .before .before .before .before .before .before .before .before .before .before .before .before .before .before .before .before .before .before .before .before .before .args .colors)) (c .before .before .before .before .before .before .before .before .before .before .before .before .before .before .before .before .before .before .before .before .before .before .before .before .before .args .n .colors)) (spot (c .before .before .before .before .before .before .before .before .before .before .before .before .before .before .before .before .before .before .before .before .before .before .before .before .before .args .source) (c .before .before .before .before .before .before .before .before .before .before .before .before .before .before .before .before .before .loop .at)) (lent (c .before .before .before .before .before .before .before .before .before .before .before .before .before .before .before .before .before .loop .k) (c .before .before .before .before .before .before .before .before .before .before .before .before .before .before .before .before .before .loop .rules) (c .before .before .before .before .before .before .before .before .before .before .before .before .before .before .before .before .before .loop .selectors) (c .before .before .before .before .before .before .before .before .before .before .before .before .before .before .before .before .before .loop .tests) (c .before .before .before .before .before .before .before .before .before .before .before .before .before .before .before .before .before .loop .properties) (c .before .before .before .before .before .before .before .before .before .before .before .before .before .before .before .before .before .loop .numbers) (now (c .before .before .before .before .before .before .before .before .before .before .before .before .before .before .before .before .before .before .before .before .before .before .before .before .before .args .colors)))) (ruleBlock (now (c .before .before .before .before .before .before .before .before .before .before .before .before .before .before .before .before .before .before .before .before .before .before .before .before .before .args .bundle)) (suc k) (colorsOf (now (c .before .before .before .before .before .before .before .before .before .before .before .before .before .before .before .before .before .before .before .before .before .before .before .before .before .args .bundle)) (now (c .before .before .before .before .before .before .before .before .before .before .before .before .before .before .before .before .before .before .before .before .before .before .before .before .before .args .colors)) (c .before .before .before .before .before .before .before .before .before .before .before .before .before .before .before .before .before .before .before .before .before .before .before .before .before .args .n .colors)) (spot (c .before .before .before .before .before .before .before .before .before .before .before .before .before .before .before .before .before .before .before .before .before .before .before .before .before .args .source) (c .before .before .before .before .before .before .before .before .before .before .before .before .before .before .before .before .before .loop .at)) (lent (c .before .before .before .before .before .before .before .before .before .before .before .before .before .before .before .before .before .loop .k) (c .before .before .before .before .before .before .before .before .before .before .before .before .before .before .before .before .before .loop .rules) (c .before .before .before .before .before .before .before .before .before .before .before .before .before .before .before .before .before .loop .selectors) (c .before .before .before .before .before .before .before .before .before .before .before .before .before .before .before .before .before .loop .tests) (c .before .before .before .before .before .before .before .before .before .before .before .before .before .before .before .before .before .loop .properties) (c .before .before .before .before .before .before .before .before .before .before .before .before .before .before .before .before .before .loop .numbers) (now (c .before .before .before .before .before .before .before .before .before .before .before .before .before .before .before .before .before .before .before .before .before .before .before .before .before .args .colors)))) (ruleObject (now (c .before .before .before .before .before .before .before .before .before .before .before .before .before .before .before .before .before .before .before .before .before .before .before .before .before .args .bundle)) (suc k) (colorsOf (now (c .before .before .before .before .before .before .before .before .before .before .before .before .before .before .before .before .before .before .before .before .before .before .before .before .before .args .bundle)) (now (c .before .before .before .before .before .before .before .before .before .before .before .before .before .before .before .before .before .before .before .before .before .before .before .before .before .args .colors)) (c .before .before .before .before .before .before .before .before .before .before .before .before .before .before .before .before .before .before .before .before .before .before .before .before .before .args .n .colors)) (spot (c .before .before .before .before .before .before .before .before .before .before .before .before .before .before .before .before .before .before .before .before .before .before .before .before .before .args .source) (c .before .before .before .before .before .before .before .before .before .before .before .before .before .before .before .before .before .loop .at)) (lent (c .before .before .before .before .before .before .before .before .before .before .before .before .before .before .before .before .before .loop .k) (c .before .before .before .before .before .before .before .before .before .before .before .before .before .before .before .before .before .loop .rules) (c .before .before .before .before .before .before .before .before .before .before .before .before .before .before .before .before .before .loop .selectors) (c .before .before .before .before .before .before .before .before .before .before .before .before .before .before .before .before .before .loop .tests) (c .before .before .before .before .before .before .before .before .before .before .before .before .before .before .before .before .before .loop .properties) (c .before .before .before .before .before .before .before .before .before .before .before .before .before .before .before .before .before .loop .numbers) (now (c .before .before .before .before .before .before .before .before .before .before .before .before .before .before .before .before .before .before .before .before .before .before .before .before .before .args .colors)))) (ruleChosen (now (c .before .before .before .before .before .before .before .before .before .before .before .before .before .before .before .before .before .before .before .before .before .before .before .before .before .args .bundle)) (suc k) (colorsOf (now (c .before .before .before .before .before .before .before .before .before .before .before .before .before .before .before .before .before .before .before .before .before .before .before .before .before .args .bundle)) (now (c .before .before .before .before .before .before .before .before .before .before .before .before .before .before .before .before .before .before .before .before .before .before .before .before .before .args .colors)) (c .before .before .before .before .before .before .before .before .before .before .before .before .before .before .before .before .before .before .before .before .before .before .before .before .before .args .n .colors))))) (c .before .before .before .before .before .before .before .before .before .before .before .before .before .before .kind .given .1) (λ y p. choice-none (Reads _ _ _ _ _) (c .before .before .before .before .before .before .before .before .before .read-choice .ensures (lent (c .before .before .before .before .before .before .before .before .before .before .before .before .before .before .before .before .before .loop .k) (c .before .before .before .before .before .before .before .before .before .before .before .before .before .before .before .before .before .loop .rules) (c .before .before .before .before .before .before .before .before .before .before .before .before .before .before .before .before .before .loop .selectors) (c .before .before .before .before .before .before .before .before .before .before .before .before .before .before .before .before .before .loop .tests) (c .before .before .before .before .before .before .before .before .before .before .before .before .before .before .before .before .before .loop .properties) (c .before .before .before .before .before .before .before .before .before .before .before .before .before .before .before .before .before .loop .numbers) (now (c .before .before .before .before .before .before .before .before .before .before .before .before .before .before .before .before .before .before .before .before .before .before .before .before .before .args .colors))) (suc k) y (ruleLast (now (c .before .before .before .before .before .before .before .before .before .before .before .before .before .before .before .before .before .before .before .before .before .before .before .before .before .args .bundle)) (suc k) (colorsOf (now (c .before .before .before .before .before .before .before .before .before .before .before .before .before .before .before .before .before .before .before .before .before .before .before .before .before .args .bundle)) (now (c .before .before .before .before .before .before .before .before .before .before .before .before .before .before .before .before .before .before .before .before .before .before .before .before .before .args .colors)) (c .before .before .before .before .before .before .before .before .before .before .before .before .before .before .before .before .before .before .before .before .before .before .before .before .before .args .n .colors))) (ruleNext (now (c .before .before .before .before .before .before .before .before .before .before .before .before .before .before .before .before .before .before .before .before .before .before .before .before .before .args .bundle)) (suc k) (colorsOf (now (c .before .before .before .before .before .before .before .before .before .before .before .before .before .before .before .before .before .before .before .before .before .before .before .before .before .args .bundle)) (now (c .before .before .before .before .before .before .before .before .before .before .before .before .before .before .before .before .before .before .before .before .before .before .before .before .before .args .colors)) (c .before .before .before .before .before .before .before .before .before .before .before .before .before .before .before .before .before .before .before .before .before .before .before .before .before .args .n .colors))) p (omega arith)) (c .before .e2 .given .1) (λ e τ q. refuses q)))
+returns-4 c = λ f h. goes-end (Reads _ _) _ _ _ _ _ _ (c .before .before .before .before .before .before .before .before .before .before .before .before .before .before .before .before .before .loop .inv .0 f h) (λ k l. start-object (Reads _ _ _ _ _) (rule-starts (now (c .before .before .before .before .before .before .before .before .before .before .before .before .before .before .before .before .before .before .before .before .before .before .before .before .before .args .bundle)) (suc k) (colorsOf (now (c .before .before .before .before .before .before .before .before .before .before .before .before .before .before .before .before .before .before .before .before .before .before .before .before .before .args .bundle)) (now (c .before .before .before .before .before .before .before .before .before .before .before .before .before .before .before .before .before .before .before .before .before .before .before .before .before .args .colors)) (c .before .before .before .before .before .before .before .before .before .before .before .before .before .before .before .before .before .before .before .before .before .before .before .before .before .args .n .colors)) (lent (c .before .before .before .before .before .before .before .before .before .before .before .before .before .before .before .before .before .loop .k) (c .before .before .before .before .before .before .before .before .before .before .before .before .before .before .before .before .before .loop .rules) (c .before .before .before .before .before .before .before .before .before .before .before .before .before .before .before .before .before .loop .selectors) (c .before .before .before .before .before .before .before .before .before .before .before .before .before .before .before .before .before .loop .tests) (c .before .before .before .before .before .before .before .before .before .before .before .before .before .before .before .before .before .loop .properties) (c .before .before .before .before .before .before .before .before .before .before .before .before .before .before .before .before .before .loop .numbers) (now (c .before .before .before .before .before .before .before .before .before .before .before .before .before .before .before .before .before .before .before .before .before .before .before .before .before .args .colors))) (tokenOf (now (c .before .before .before .before .before .before .before .before .before .before .before .before .before .before .before .before .before .before .before .before .before .before .before .before .before .args .bundle)) (c .before .before .before .before .before .before .before .before .before .before .before .before .before .before .before .before .before .loop .first)) (c .before .before .before .before .before .before .before .before .before .before .before .before .before .before .before .before .before .loop .begins) (spot (c .before .before .before .before .before .before .before .before .before .before .before .before .before .before .before .before .before .before .before .before .before .before .before .before .before .args .source) (c .before .before .before .before .before .before .before .before .before .before .before .before .before .before .before .before .before .loop .at)) (c .before .before .before .before .before .before .before .before .before .before .before .before .before .before .before .before .rule-start .ensures (lent (c .before .before .before .before .before .before .before .before .before .before .before .before .before .before .before .before .before .loop .k) (c .before .before .before .before .before .before .before .before .before .before .before .before .before .before .before .before .before .loop .rules) (c .before .before .before .before .before .before .before .before .before .before .before .before .before .before .before .before .before .loop .selectors) (c .before .before .before .before .before .before .before .before .before .before .before .before .before .before .before .before .before .loop .tests) (c .before .before .before .before .before .before .before .before .before .before .before .before .before .before .before .before .before .loop .properties) (c .before .before .before .before .before .before .before .before .before .before .before .before .before .before .before .before .before .loop .numbers) (now (c .before .before .before .before .before .before .before .before .before .before .before .before .before .before .before .before .before .before .before .before .before .before .before .before .before .args .colors))) (readBody (reading (now (c .before .before .before .before .before .before .before .before .before .before .before .before .before .before .before .before .before .before .before .before .before .before .before .before .before .args .bundle))) (suc k) (colorsOf (now (c .before .before .before .before .before .before .before .before .before .before .before .before .before .before .before .before .before .before .before .before .before .before .before .before .before .args .bundle)) (now (c .before .before .before .before .before .before .before .before .before .before .before .before .before .before .before .before .before .before .before .before .before .before .before .before .before .args .colors)) (c .before .before .before .before .before .before .before .before .before .before .before .before .before .before .before .before .before .before .before .before .before .before .before .before .before .args .n .colors)) [] (spot (c .before .before .before .before .before .before .before .before .before .before .before .before .before .before .before .before .before .before .before .before .before .before .before .before .before .args .source) (c .before .before .before .before .before .before .before .before .before .before .before .before .before .before .before .before .before .loop .at)) (lent (c .before .before .before .before .before .before .before .before .before .before .before .before .before .before .before .before .before .loop .k) (c .before .before .before .before .before .before .before .before .before .before .before .before .before .before .before .before .before .loop .rules) (c .before .before .before .before .before .before .before .before .before .before .before .before .before .before .before .before .before .loop .selectors) (c .before .before .before .before .before .before .before .before .before .before .before .before .before .before .before .before .before .loop .tests) (c .before .before .before .before .before .before .before .before .before .before .before .before .before .before .before .before .before .loop .properties) (c .before .before .before .before .before .before .before .before .before .before .before .before .before .before .before .before .before .loop .numbers) (now (c .before .before .before .before .before .before .before .before .before .before .before .before .before .before .before .before .before .before .before .before .before .before .before .before .before .args .colors)))) (readBlock (reading (now (c .before .before .before .before .before .before .before .before .before .before .before .before .before .before .before .before .before .before .before .before .before .before .before .before .before .args .bundle))) (suc k) (spot (c .before .before .before .before .before .before .before .before .before .before .before .before .before .before .before .before .before .before .before .before .before .before .before .before .before .args .source) (c .before .before .before .before .before .before .before .before .before .before .before .before .before .before .before .before .before .loop .at)) (lent (c .before .before .before .before .before .before .before .before .before .before .before .before .before .before .before .before .before .loop .k) (c .before .before .before .before .before .before .before .before .before .before .before .before .before .before .before .before .before .loop .rules) (c .before .before .before .before .before .before .before .before .before .before .before .before .before .before .before .before .before .loop .selectors) (c .before .before .before .before .before .before .before .before .before .before .before .before .before .before .before .before .before .loop .tests) (c .before .before .before .before .before .before .before .before .before .before .before .before .before .before .before .before .before .loop .properties) (c .before .before .before .before .before .before .before .before .before .before .before .before .before .before .before .before .before .loop .numbers) (now (c .before .before .before .before .before .before .before .before .before .before .before .before .before .before .before .before .before .before .before .before .before .before .before .before .before .args .colors)))) (ruleObject (now (c .before .before .before .before .before .before .before .before .before .before .before .before .before .before .before .before .before .before .before .before .before .before .before .before .before .args .bundle)) (suc k) (colorsOf (now (c .before .before .before .before .before .before .before .before .before .before .before .before .before .before .before .before .before .before .before .before .before .before .before .before .before .args .bundle)) (now (c .before .before .before .before .before .before .before .before .before .before .before .before .before .before .before .before .before .before .before .before .before .before .before .before .before .args .colors)) (c .before .before .before .before .before .before .before .before .before .before .before .before .before .before .before .before .before .before .before .before .before .before .before .before .before .args .n .colors)) (spot (c .before .before .before .before .before .before .before .before .before .before .before .before .before .before .before .before .before .before .before .before .before .before .before .before .before .args .source) (c .before .before .before .before .before .before .before .before .before .before .before .before .before .before .before .before .before .loop .at)) (lent (c .before .before .before .before .before .before .before .before .before .before .before .before .before .before .before .before .before .loop .k) (c .before .before .before .before .before .before .before .before .before .before .before .before .before .before .before .before .before .loop .rules) (c .before .before .before .before .before .before .before .before .before .before .before .before .before .before .before .before .before .loop .selectors) (c .before .before .before .before .before .before .before .before .before .before .before .before .before .before .before .before .before .loop .tests) (c .before .before .before .before .before .before .before .before .before .before .before .before .before .before .before .before .before .loop .properties) (c .before .before .before .before .before .before .before .before .before .before .before .before .before .before .before .before .before .loop .numbers) (now (c .before .before .before .before .before .before .before .before .before .before .before .before .before .before .before .before .before .before .before .before .before .before .before .before .before .args .colors)))) (ruleChosen (now (c .before .before .before .before .before .before .before .before .before .before .before .before .before .before .before .before .before .before .before .before .before .before .before .before .before .args .bundle)) (suc k) (colorsOf (now (c .before .before .before .before .before .before .before .before .before .before .before .before .before .before .before .before .before .before .before .before .before .before .before .before .before .args .bundle)) (now (c .before .before .before .before .before .before .before .before .before .before .before .before .before .before .before .before .before .before .before .before .before .before .before .before .before .args .colors)) (c .before .before .before .before .before .before .before .before .before .before .before .before .before .before .before .before .before .before .before .before .before .before .before .before .before .args .n .colors))))) (c .before .before .before .before .before .before .before .before .before .before .before .before .before .before .kind .given .1) (λ y p. choice-none (Reads _ _ _ _ _) (c .before .before .before .before .before .before .before .before .before .read-choice .ensures (lent (c .before .before .before .before .before .before .before .before .before .before .before .before .before .before .before .before .before .loop .k) (c .before .before .before .before .before .before .before .before .before .before .before .before .before .before .before .before .before .loop .rules) (c .before .before .before .before .before .before .before .before .before .before .before .before .before .before .before .before .before .loop .selectors) (c .before .before .before .before .before .before .before .before .before .before .before .before .before .before .before .before .before .loop .tests) (c .before .before .before .before .before .before .before .before .before .before .before .before .before .before .before .before .before .loop .properties) (c .before .before .before .before .before .before .before .before .before .before .before .before .before .before .before .before .before .loop .numbers) (now (c .before .before .before .before .before .before .before .before .before .before .before .before .before .before .before .before .before .before .before .before .before .before .before .before .before .args .colors))) (suc k) y (λ σ. readBody (reading (now (c .before .before .before .before .before .before .before .before .before .before .before .before .before .before .before .before .before .before .before .before .before .before .before .before .before .args .bundle))) (suc k) (colorsOf (now (c .before .before .before .before .before .before .before .before .before .before .before .before .before .before .before .before .before .before .before .before .before .before .before .before .before .args .bundle)) (now (c .before .before .before .before .before .before .before .before .before .before .before .before .before .before .before .before .before .before .before .before .before .before .before .before .before .args .colors)) (c .before .before .before .before .before .before .before .before .before .before .before .before .before .before .before .before .before .before .before .before .before .before .before .before .before .args .n .colors)) (σ ∷ [])) (ruleNext (now (c .before .before .before .before .before .before .before .before .before .before .before .before .before .before .before .before .before .before .before .before .before .before .before .before .before .args .bundle)) (suc k) (colorsOf (now (c .before .before .before .before .before .before .before .before .before .before .before .before .before .before .before .before .before .before .before .before .before .before .before .before .before .args .bundle)) (now (c .before .before .before .before .before .before .before .before .before .before .before .before .before .before .before .before .before .before .before .before .before .before .before .before .before .args .colors)) (c .before .before .before .before .before .before .before .before .before .before .before .before .before .before .before .before .before .before .before .before .before .before .before .before .before .args .n .colors))) p (omega arith)) (c .before .e2 .given .1) (λ e τ q. refuses q)))
 
 -- src/rule.rt:292:36
 enum-known-d : tie.Need-enum-known-d Inv-loop μ-loop
@@ -203,7 +203,7 @@ same-length-25 c = omega (arith, c .before .before .before .before .before .befo
 
 -- src/rule.rt:293:21
 returns-5 : tie.Need-returns-5 Inv-loop μ-loop
-returns-5 c = λ f h. goes-end (Reads _ _) _ _ _ _ _ _ (c .before .before .before .before .before .before .before .before .before .before .before .before .before .before .before .before .before .before .before .before .before .before .before .before .before .before .before .loop .inv .0 f h) (λ k l. start-object (Reads _ _ _ _ _) (rule-starts (now (c .before .before .before .before .before .before .before .before .before .before .before .before .before .before .before .before .before .before .before .before .before .before .before .before .before .before .before .before .before .before .before .before .before .before .before .args .bundle)) (suc k) (colorsOf (now (c .before .before .before .before .before .before .before .before .before .before .before .before .before .before .before .before .before .before .before .before .before .before .before .before .before .before .before .before .before .before .before .before .before .before .before .args .bundle)) (now (c .before .before .before .before .before .before .before .before .before .before .before .before .before .before .before .before .before .before .before .before .before .before .before .before .before .before .before .before .before .before .before .before .before .before .before .args .colors)) (c .before .before .before .before .before .before .before .before .before .before .before .before .before .before .before .before .before .before .before .before .before .before .before .before .before .before .before .before .before .before .before .before .before .before .before .args .n .colors)) (lent (c .before .before .before .before .before .before .before .before .before .before .before .before .before .before .before .before .before .before .before .before .before .before .before .before .before .before .before .loop .k) (c .before .before .before .before .before .before .before .before .before .before .before .before .before .before .before .before .before .before .before .before .before .before .before .before .before .before .before .loop .rules) (c .before .before .before .before .before .before .before .before .before .before .before .before .before .before .before .before .before .before .before .before .before .before .before .before .before .before .before .loop .selectors) (c .before .before .before .before .before .before .before .before .before .before .before .before .before .before .before .before .before .before .before .before .before .before .before .before .before .before .before .loop .tests) (c .before .before .before .before .before .before .before .before .before .before .before .before .before .before .before .before .before .before .before .before .before .before .before .before .before .before .before .loop .properties) (c .before .before .before .before .before .before .before .before .before .before .before .before .before .before .before .before .before .before .before .before .before .before .before .before .before .before .before .loop .numbers) (now (c .before .before .before .before .before .before .before .before .before .before .before .before .before .before .before .before .before .before .before .before .before .before .before .before .before .before .before .before .before .before .before .before .before .before .before .args .colors))) (tokenOf (now (c .before .before .before .before .before .before .before .before .before .before .before .before .before .before .before .before .before .before .before .before .before .before .before .before .before .before .before .before .before .before .before .before .before .before .before .args .bundle)) (c .before .before .before .before .before .before .before .before .before .before .before .before .before .before .before .before .before .before .before .before .before .before .before .before .before .before .before .loop .first)) (c .before .before .before .before .before .before .before .before .before .before .before .before .before .before .before .before .before .before .before .before .before .before .before .before .before .before .before .loop .begins) (spot (c .before .before .before .before .before .before .before .before .before .before .before .before .before .before .before .before .before .before .before .before .before .before .before .before .before .before .before .before .before .before .before .before .before .before .before .args .source) (c .before .before .before .before .before .before .before .before .before .before .before .before .before .before .before .before .before .before .before .before .before .before .before .before .before .before .before .loop .at)) (c .before .before .before .before .before .before .before .before .before .before .before .before .before .before .before .before .before .before .before .before .before .before .before .before .before .before .rule-start .ensures (lent (c .before .before .before .before .before .before .before .before .before .before .before .before .before .before .before .before .before .before .before .before .before .before .before .before .before .before .before .loop .k) (c .before .before .before .before .before .before .before .before .before .before .before .before .before .before .before .before .before .before .before .before .before .before .before .before .before .before .before .loop .rules) (c .before .before .before .before .before .before .before .before .before .before .before .before .before .before .before .before .before .before .before .before .before .before .before .before .before .before .before .loop .selectors) (c .before .before .before .before .before .before .before .before .before .before .before .before .before .before .before .before .before .before .before .before .before .before .before .before .before .before .before .loop .tests) (c .before .before .before .before .before .before .before .before .before .before .before .before .before .before .before .before .before .before .before .before .before .before .before .before .before .before .before .loop .properties) (c .before .before .before .before .before .before .before .before .before .before .before .before .before .before .before .before .before .before .before .before .before .before .before .before .before .before .before .loop .numbers) (now (c .before .before .before .before .before .before .before .before .before .before .before .before .before .before .before .before .before .before .before .before .before .before .before .before .before .before .before .before .before .before .before .before .before .before .before .args .colors))) (ruleBody (now (c .before .before .before .before .before .before .before .before .before .before .before .before .before .before .before .before .before .before .before .before .before .before .before .before .before .before .before .before .before .before .before .before .before .before .before .args .bundle)) (suc k) (colorsOf (now (c .before .before .before .before .before .before .before .before .before .before .before .before .before .before .before .before .before .before .before .before .before .before .before .before .before .before .before .before .before .before .before .before .before .before .before .args .bundle)) (now (c .before .before .before .before .before .before .before .before .before .before .before .before .before .before .before .before .before .before .before .before .before .before .before .before .before .before .before .before .before .before .before .before .before .before .before .args .colors)) (c .before .before .before .before .before .before .before .before .before .before .before .before .before .before .before .before .before .before .before .before .before .before .before .before .before .before .before .before .before .before .before .before .before .before .before .args .n .colors)) (spot (c .before .before .before .before .before .before .before .before .before .before .before .before .before .before .before .before .before .before .before .before .before .before .before .before .before .before .before .before .before .before .before .before .before .before .before .args .source) (c .before .before .before .before .before .before .before .before .before .before .before .before .before .before .before .before .before .before .before .before .before .before .before .before .before .before .before .loop .at)) (lent (c .before .before .before .before .before .before .before .before .before .before .before .before .before .before .before .before .before .before .before .before .before .before .before .before .before .before .before .loop .k) (c .before .before .before .before .before .before .before .before .before .before .before .before .before .before .before .before .before .before .before .before .before .before .before .before .before .before .before .loop .rules) (c .before .before .before .before .before .before .before .before .before .before .before .before .before .before .before .before .before .before .before .before .before .before .before .before .before .before .before .loop .selectors) (c .before .before .before .before .before .before .before .before .before .before .before .before .before .before .before .before .before .before .before .before .before .before .before .before .before .before .before .loop .tests) (c .before .before .before .before .before .before .before .before .before .before .before .before .before .before .before .before .before .before .before .before .before .before .before .before .before .before .before .loop .properties) (c .before .before .before .before .before .before .before .before .before .before .before .before .before .before .before .before .before .before .before .before .before .before .before .before .before .before .before .loop .numbers) (now (c .before .before .before .before .before .before .before .before .before .before .before .before .before .before .before .before .before .before .before .before .before .before .before .before .before .before .before .before .before .before .before .before .before .before .before .args .colors)))) (ruleBlock (now (c .before .before .before .before .before .before .before .before .before .before .before .before .before .before .before .before .before .before .before .before .before .before .before .before .before .before .before .before .before .before .before .before .before .before .before .args .bundle)) (suc k) (colorsOf (now (c .before .before .before .before .before .before .before .before .before .before .before .before .before .before .before .before .before .before .before .before .before .before .before .before .before .before .before .before .before .before .before .before .before .before .before .args .bundle)) (now (c .before .before .before .before .before .before .before .before .before .before .before .before .before .before .before .before .before .before .before .before .before .before .before .before .before .before .before .before .before .before .before .before .before .before .before .args .colors)) (c .before .before .before .before .before .before .before .before .before .before .before .before .before .before .before .before .before .before .before .before .before .before .before .before .before .before .before .before .before .before .before .before .before .before .before .args .n .colors)) (spot (c .before .before .before .before .before .before .before .before .before .before .before .before .before .before .before .before .before .before .before .before .before .before .before .before .before .before .before .before .before .before .before .before .before .before .before .args .source) (c .before .before .before .before .before .before .before .before .before .before .before .before .before .before .before .before .before .before .before .before .before .before .before .before .before .before .before .loop .at)) (lent (c .before .before .before .before .before .before .before .before .before .before .before .before .before .before .before .before .before .before .before .before .before .before .before .before .before .before .before .loop .k) (c .before .before .before .before .before .before .before .before .before .before .before .before .before .before .before .before .before .before .before .before .before .before .before .before .before .before .before .loop .rules) (c .before .before .before .before .before .before .before .before .before .before .before .before .before .before .before .before .before .before .before .before .before .before .before .before .before .before .before .loop .selectors) (c .before .before .before .before .before .before .before .before .before .before .before .before .before .before .before .before .before .before .before .before .before .before .before .before .before .before .before .loop .tests) (c .before .before .before .before .before .before .before .before .before .before .before .before .before .before .before .before .before .before .before .before .before .before .before .before .before .before .before .loop .properties) (c .before .before .before .before .before .before .before .before .before .before .before .before .before .before .before .before .before .before .before .before .before .before .before .before .before .before .before .loop .numbers) (now (c .before .before .before .before .before .before .before .before .before .before .before .before .before .before .before .before .before .before .before .before .before .before .before .before .before .before .before .before .before .before .before .before .before .before .before .args .colors)))) (ruleObject (now (c .before .before .before .before .before .before .before .before .before .before .before .before .before .before .before .before .before .before .before .before .before .before .before .before .before .before .before .before .before .before .before .before .before .before .before .args .bundle)) (suc k) (colorsOf (now (c .before .before .before .before .before .before .before .before .before .before .before .before .before .before .before .before .before .before .before .before .before .before .before .before .before .before .before .before .before .before .before .before .before .before .before .args .bundle)) (now (c .before .before .before .before .before .before .before .before .before .before .before .before .before .before .before .before .before .before .before .before .before .before .before .before .before .before .before .before .before .before .before .before .before .before .before .args .colors)) (c .before .before .before .before .before .before .before .before .before .before .before .before .before .before .before .before .before .before .before .before .before .before .before .before .before .before .before .before .before .before .before .before .before .before .before .args .n .colors)) (spot (c .before .before .before .before .before .before .before .before .before .before .before .before .before .before .before .before .before .before .before .before .before .before .before .before .before .before .before .before .before .before .before .before .before .before .before .args .source) (c .before .before .before .before .before .before .before .before .before .before .before .before .before .before .before .before .before .before .before .before .before .before .before .before .before .before .before .loop .at)) (lent (c .before .before .before .before .before .before .before .before .before .before .before .before .before .before .before .before .before .before .before .before .before .before .before .before .before .before .before .loop .k) (c .before .before .before .before .before .before .before .before .before .before .before .before .before .before .before .before .before .before .before .before .before .before .before .before .before .before .before .loop .rules) (c .before .before .before .before .before .before .before .before .before .before .before .before .before .before .before .before .before .before .before .before .before .before .before .before .before .before .before .loop .selectors) (c .before .before .before .before .before .before .before .before .before .before .before .before .before .before .before .before .before .before .before .before .before .before .before .before .before .before .before .loop .tests) (c .before .before .before .before .before .before .before .before .before .before .before .before .before .before .before .before .before .before .before .before .before .before .before .before .before .before .before .loop .properties) (c .before .before .before .before .before .before .before .before .before .before .before .before .before .before .before .before .before .before .before .before .before .before .before .before .before .before .before .loop .numbers) (now (c .before .before .before .before .before .before .before .before .before .before .before .before .before .before .before .before .before .before .before .before .before .before .before .before .before .before .before .before .before .before .before .before .before .before .before .args .colors)))) (ruleChosen (now (c .before .before .before .before .before .before .before .before .before .before .before .before .before .before .before .before .before .before .before .before .before .before .before .before .before .before .before .before .before .before .before .before .before .before .before .args .bundle)) (suc k) (colorsOf (now (c .before .before .before .before .before .before .before .before .before .before .before .before .before .before .before .before .before .before .before .before .before .before .before .before .before .before .before .before .before .before .before .before .before .before .before .args .bundle)) (now (c .before .before .before .before .before .before .before .before .before .before .before .before .before .before .before .before .before .before .before .before .before .before .before .before .before .before .before .before .before .before .before .before .before .before .before .args .colors)) (c .before .before .before .before .before .before .before .before .before .before .before .before .before .before .before .before .before .before .before .before .before .before .before .before .before .before .before .before .before .before .before .before .before .before .before .args .n .colors))))) (c .before .before .before .before .before .before .before .before .before .before .before .before .before .before .before .before .before .before .before .before .before .before .before .before .kind .given .1) (λ y p. choice-last (Reads _ _ _ _ _) (c .before .before .before .before .before .before .before .before .before .before .before .before .before .before .before .before .before .before .before .read-choice .ensures (lent (c .before .before .before .before .before .before .before .before .before .before .before .before .before .before .before .before .before .before .before .before .before .before .before .before .before .before .before .loop .k) (c .before .before .before .before .before .before .before .before .before .before .before .before .before .before .before .before .before .before .before .before .before .before .before .before .before .before .before .loop .rules) (c .before .before .before .before .before .before .before .before .before .before .before .before .before .before .before .before .before .before .before .before .before .before .before .before .before .before .before .loop .selectors) (c .before .before .before .before .before .before .before .before .before .before .before .before .before .before .before .before .before .before .before .before .before .before .before .before .before .before .before .loop .tests) (c .before .before .before .before .before .before .before .before .before .before .before .before .before .before .before .before .before .before .before .before .before .before .before .before .before .before .before .loop .properties) (c .before .before .before .before .before .before .before .before .before .before .before .before .before .before .before .before .before .before .before .before .before .before .before .before .before .before .before .loop .numbers) (now (c .before .before .before .before .before .before .before .before .before .before .before .before .before .before .before .before .before .before .before .before .before .before .before .before .before .before .before .before .before .before .before .before .before .before .before .args .colors))) (suc k) y (ruleLast (now (c .before .before .before .before .before .before .before .before .before .before .before .before .before .before .before .before .before .before .before .before .before .before .before .before .before .before .before .before .before .before .before .before .before .before .before .args .bundle)) (suc k) (colorsOf (now (c .before .before .before .before .before .before .before .before .before .before .before .before .before .before .before .before .before .before .before .before .before .before .before .before .before .before .before .before .before .before .before .before .before .before .before .args .bundle)) (now (c .before .before .before .before .before .before .before .before .before .before .before .before .before .before .before .before .before .before .before .before .before .before .before .before .before .before .before .before .before .before .before .before .before .before .before .args .colors)) (c .before .before .before .before .before .before .before .before .before .before .before .before .before .before .before .before .before .before .before .before .before .before .before .before .before .before .before .before .before .before .before .before .before .before .before .args .n .colors))) (ruleNext (now (c .before .before .before .before .before .before .before .before .before .before .before .before .before .before .before .before .before .before .before .before .before .before .before .before .before .before .before .before .before .before .before .before .before .before .before .args .bundle)) (suc k) (colorsOf (now (c .before .before .before .before .before .before .before .before .before .before .before .before .before .before .before .before .before .before .before .before .before .before .before .before .before .before .before .before .before .before .before .before .before .before .before .args .bundle)) (now (c .before .before .before .before .before .before .before .before .before .before .before .before .before .before .before .before .before .before .before .before .before .before .before .before .before .before .before .before .before .before .before .before .before .before .before .args .colors)) (c .before .before .before .before .before .before .before .before .before .before .before .before .before .before .before .before .before .before .before .before .before .before .before .before .before .before .before .before .before .before .before .before .before .before .before .args .n .colors))) p (omega arith)) (c .before .before .before .before .before .before .before .before .before .before .before .d .given .1) (λ σ m. widen (omega arith) (c .before .before .before .before .before .before .read-body2 .ensures (lent (c .before .before .before .before .before .before .before .before .before .before .before .before .before .before .before .before .before .before .before .before .before .before .before .before .before .before .before .loop .k) (c .before .before .before .before .before .before .before .before .before .before .before .before .before .before .before .before .before .before .before .before .before .before .before .before .before .before .before .loop .rules) (c .before .before .before .before .before .before .before .before .before .before .before .before .before .before .before .before .before .before .before .read-choice .last .1 .1 .1 .1 .1 .0) (c .before .before .before .before .before .before .before .before .before .before .before .before .before .before .before .before .before .before .before .read-choice .last .1 .1 .1 .1 .1 .1 .0) (c .before .before .before .before .before .before .before .before .before .before .before .before .before .before .before .before .before .before .before .before .before .before .before .before .before .before .before .loop .properties) (c .before .before .before .before .before .before .before .before .before .before .before .before .before .before .before .before .before .before .before .read-choice .last .1 .1 .1 .1 .1 .1 .1 .0) (now (c .before .before .before .before .before .before .before .before .before .before .before .before .before .before .before .before .before .before .before .before .before .before .before .before .before .before .before .before .before .before .before .before .before .before .before .args .colors))) (suc k) (σ ∷ []) (omega arith)))))
+returns-5 c = λ f h. goes-end (Reads _ _) _ _ _ _ _ _ (c .before .before .before .before .before .before .before .before .before .before .before .before .before .before .before .before .before .before .before .before .before .before .before .before .before .before .before .loop .inv .0 f h) (λ k l. start-object (Reads _ _ _ _ _) (rule-starts (now (c .before .before .before .before .before .before .before .before .before .before .before .before .before .before .before .before .before .before .before .before .before .before .before .before .before .before .before .before .before .before .before .before .before .before .before .args .bundle)) (suc k) (colorsOf (now (c .before .before .before .before .before .before .before .before .before .before .before .before .before .before .before .before .before .before .before .before .before .before .before .before .before .before .before .before .before .before .before .before .before .before .before .args .bundle)) (now (c .before .before .before .before .before .before .before .before .before .before .before .before .before .before .before .before .before .before .before .before .before .before .before .before .before .before .before .before .before .before .before .before .before .before .before .args .colors)) (c .before .before .before .before .before .before .before .before .before .before .before .before .before .before .before .before .before .before .before .before .before .before .before .before .before .before .before .before .before .before .before .before .before .before .before .args .n .colors)) (lent (c .before .before .before .before .before .before .before .before .before .before .before .before .before .before .before .before .before .before .before .before .before .before .before .before .before .before .before .loop .k) (c .before .before .before .before .before .before .before .before .before .before .before .before .before .before .before .before .before .before .before .before .before .before .before .before .before .before .before .loop .rules) (c .before .before .before .before .before .before .before .before .before .before .before .before .before .before .before .before .before .before .before .before .before .before .before .before .before .before .before .loop .selectors) (c .before .before .before .before .before .before .before .before .before .before .before .before .before .before .before .before .before .before .before .before .before .before .before .before .before .before .before .loop .tests) (c .before .before .before .before .before .before .before .before .before .before .before .before .before .before .before .before .before .before .before .before .before .before .before .before .before .before .before .loop .properties) (c .before .before .before .before .before .before .before .before .before .before .before .before .before .before .before .before .before .before .before .before .before .before .before .before .before .before .before .loop .numbers) (now (c .before .before .before .before .before .before .before .before .before .before .before .before .before .before .before .before .before .before .before .before .before .before .before .before .before .before .before .before .before .before .before .before .before .before .before .args .colors))) (tokenOf (now (c .before .before .before .before .before .before .before .before .before .before .before .before .before .before .before .before .before .before .before .before .before .before .before .before .before .before .before .before .before .before .before .before .before .before .before .args .bundle)) (c .before .before .before .before .before .before .before .before .before .before .before .before .before .before .before .before .before .before .before .before .before .before .before .before .before .before .before .loop .first)) (c .before .before .before .before .before .before .before .before .before .before .before .before .before .before .before .before .before .before .before .before .before .before .before .before .before .before .before .loop .begins) (spot (c .before .before .before .before .before .before .before .before .before .before .before .before .before .before .before .before .before .before .before .before .before .before .before .before .before .before .before .before .before .before .before .before .before .before .before .args .source) (c .before .before .before .before .before .before .before .before .before .before .before .before .before .before .before .before .before .before .before .before .before .before .before .before .before .before .before .loop .at)) (c .before .before .before .before .before .before .before .before .before .before .before .before .before .before .before .before .before .before .before .before .before .before .before .before .before .before .rule-start .ensures (lent (c .before .before .before .before .before .before .before .before .before .before .before .before .before .before .before .before .before .before .before .before .before .before .before .before .before .before .before .loop .k) (c .before .before .before .before .before .before .before .before .before .before .before .before .before .before .before .before .before .before .before .before .before .before .before .before .before .before .before .loop .rules) (c .before .before .before .before .before .before .before .before .before .before .before .before .before .before .before .before .before .before .before .before .before .before .before .before .before .before .before .loop .selectors) (c .before .before .before .before .before .before .before .before .before .before .before .before .before .before .before .before .before .before .before .before .before .before .before .before .before .before .before .loop .tests) (c .before .before .before .before .before .before .before .before .before .before .before .before .before .before .before .before .before .before .before .before .before .before .before .before .before .before .before .loop .properties) (c .before .before .before .before .before .before .before .before .before .before .before .before .before .before .before .before .before .before .before .before .before .before .before .before .before .before .before .loop .numbers) (now (c .before .before .before .before .before .before .before .before .before .before .before .before .before .before .before .before .before .before .before .before .before .before .before .before .before .before .before .before .before .before .before .before .before .before .before .args .colors))) (readBody (reading (now (c .before .before .before .before .before .before .before .before .before .before .before .before .before .before .before .before .before .before .before .before .before .before .before .before .before .before .before .before .before .before .before .before .before .before .before .args .bundle))) (suc k) (colorsOf (now (c .before .before .before .before .before .before .before .before .before .before .before .before .before .before .before .before .before .before .before .before .before .before .before .before .before .before .before .before .before .before .before .before .before .before .before .args .bundle)) (now (c .before .before .before .before .before .before .before .before .before .before .before .before .before .before .before .before .before .before .before .before .before .before .before .before .before .before .before .before .before .before .before .before .before .before .before .args .colors)) (c .before .before .before .before .before .before .before .before .before .before .before .before .before .before .before .before .before .before .before .before .before .before .before .before .before .before .before .before .before .before .before .before .before .before .before .args .n .colors)) [] (spot (c .before .before .before .before .before .before .before .before .before .before .before .before .before .before .before .before .before .before .before .before .before .before .before .before .before .before .before .before .before .before .before .before .before .before .before .args .source) (c .before .before .before .before .before .before .before .before .before .before .before .before .before .before .before .before .before .before .before .before .before .before .before .before .before .before .before .loop .at)) (lent (c .before .before .before .before .before .before .before .before .before .before .before .before .before .before .before .before .before .before .before .before .before .before .before .before .before .before .before .loop .k) (c .before .before .before .before .before .before .before .before .before .before .before .before .before .before .before .before .before .before .before .before .before .before .before .before .before .before .before .loop .rules) (c .before .before .before .before .before .before .before .before .before .before .before .before .before .before .before .before .before .before .before .before .before .before .before .before .before .before .before .loop .selectors) (c .before .before .before .before .before .before .before .before .before .before .before .before .before .before .before .before .before .before .before .before .before .before .before .before .before .before .before .loop .tests) (c .before .before .before .before .before .before .before .before .before .before .before .before .before .before .before .before .before .before .before .before .before .before .before .before .before .before .before .loop .properties) (c .before .before .before .before .before .before .before .before .before .before .before .before .before .before .before .before .before .before .before .before .before .before .before .before .before .before .before .loop .numbers) (now (c .before .before .before .before .before .before .before .before .before .before .before .before .before .before .before .before .before .before .before .before .before .before .before .before .before .before .before .before .before .before .before .before .before .before .before .args .colors)))) (readBlock (reading (now (c .before .before .before .before .before .before .before .before .before .before .before .before .before .before .before .before .before .before .before .before .before .before .before .before .before .before .before .before .before .before .before .before .before .before .before .args .bundle))) (suc k) (spot (c .before .before .before .before .before .before .before .before .before .before .before .before .before .before .before .before .before .before .before .before .before .before .before .before .before .before .before .before .before .before .before .before .before .before .before .args .source) (c .before .before .before .before .before .before .before .before .before .before .before .before .before .before .before .before .before .before .before .before .before .before .before .before .before .before .before .loop .at)) (lent (c .before .before .before .before .before .before .before .before .before .before .before .before .before .before .before .before .before .before .before .before .before .before .before .before .before .before .before .loop .k) (c .before .before .before .before .before .before .before .before .before .before .before .before .before .before .before .before .before .before .before .before .before .before .before .before .before .before .before .loop .rules) (c .before .before .before .before .before .before .before .before .before .before .before .before .before .before .before .before .before .before .before .before .before .before .before .before .before .before .before .loop .selectors) (c .before .before .before .before .before .before .before .before .before .before .before .before .before .before .before .before .before .before .before .before .before .before .before .before .before .before .before .loop .tests) (c .before .before .before .before .before .before .before .before .before .before .before .before .before .before .before .before .before .before .before .before .before .before .before .before .before .before .before .loop .properties) (c .before .before .before .before .before .before .before .before .before .before .before .before .before .before .before .before .before .before .before .before .before .before .before .before .before .before .before .loop .numbers) (now (c .before .before .before .before .before .before .before .before .before .before .before .before .before .before .before .before .before .before .before .before .before .before .before .before .before .before .before .before .before .before .before .before .before .before .before .args .colors)))) (ruleObject (now (c .before .before .before .before .before .before .before .before .before .before .before .before .before .before .before .before .before .before .before .before .before .before .before .before .before .before .before .before .before .before .before .before .before .before .before .args .bundle)) (suc k) (colorsOf (now (c .before .before .before .before .before .before .before .before .before .before .before .before .before .before .before .before .before .before .before .before .before .before .before .before .before .before .before .before .before .before .before .before .before .before .before .args .bundle)) (now (c .before .before .before .before .before .before .before .before .before .before .before .before .before .before .before .before .before .before .before .before .before .before .before .before .before .before .before .before .before .before .before .before .before .before .before .args .colors)) (c .before .before .before .before .before .before .before .before .before .before .before .before .before .before .before .before .before .before .before .before .before .before .before .before .before .before .before .before .before .before .before .before .before .before .before .args .n .colors)) (spot (c .before .before .before .before .before .before .before .before .before .before .before .before .before .before .before .before .before .before .before .before .before .before .before .before .before .before .before .before .before .before .before .before .before .before .before .args .source) (c .before .before .before .before .before .before .before .before .before .before .before .before .before .before .before .before .before .before .before .before .before .before .before .before .before .before .before .loop .at)) (lent (c .before .before .before .before .before .before .before .before .before .before .before .before .before .before .before .before .before .before .before .before .before .before .before .before .before .before .before .loop .k) (c .before .before .before .before .before .before .before .before .before .before .before .before .before .before .before .before .before .before .before .before .before .before .before .before .before .before .before .loop .rules) (c .before .before .before .before .before .before .before .before .before .before .before .before .before .before .before .before .before .before .before .before .before .before .before .before .before .before .before .loop .selectors) (c .before .before .before .before .before .before .before .before .before .before .before .before .before .before .before .before .before .before .before .before .before .before .before .before .before .before .before .loop .tests) (c .before .before .before .before .before .before .before .before .before .before .before .before .before .before .before .before .before .before .before .before .before .before .before .before .before .before .before .loop .properties) (c .before .before .before .before .before .before .before .before .before .before .before .before .before .before .before .before .before .before .before .before .before .before .before .before .before .before .before .loop .numbers) (now (c .before .before .before .before .before .before .before .before .before .before .before .before .before .before .before .before .before .before .before .before .before .before .before .before .before .before .before .before .before .before .before .before .before .before .before .args .colors)))) (ruleChosen (now (c .before .before .before .before .before .before .before .before .before .before .before .before .before .before .before .before .before .before .before .before .before .before .before .before .before .before .before .before .before .before .before .before .before .before .before .args .bundle)) (suc k) (colorsOf (now (c .before .before .before .before .before .before .before .before .before .before .before .before .before .before .before .before .before .before .before .before .before .before .before .before .before .before .before .before .before .before .before .before .before .before .before .args .bundle)) (now (c .before .before .before .before .before .before .before .before .before .before .before .before .before .before .before .before .before .before .before .before .before .before .before .before .before .before .before .before .before .before .before .before .before .before .before .args .colors)) (c .before .before .before .before .before .before .before .before .before .before .before .before .before .before .before .before .before .before .before .before .before .before .before .before .before .before .before .before .before .before .before .before .before .before .before .args .n .colors))))) (c .before .before .before .before .before .before .before .before .before .before .before .before .before .before .before .before .before .before .before .before .before .before .before .before .kind .given .1) (λ y p. choice-last (Reads _ _ _ _ _) (c .before .before .before .before .before .before .before .before .before .before .before .before .before .before .before .before .before .before .before .read-choice .ensures (lent (c .before .before .before .before .before .before .before .before .before .before .before .before .before .before .before .before .before .before .before .before .before .before .before .before .before .before .before .loop .k) (c .before .before .before .before .before .before .before .before .before .before .before .before .before .before .before .before .before .before .before .before .before .before .before .before .before .before .before .loop .rules) (c .before .before .before .before .before .before .before .before .before .before .before .before .before .before .before .before .before .before .before .before .before .before .before .before .before .before .before .loop .selectors) (c .before .before .before .before .before .before .before .before .before .before .before .before .before .before .before .before .before .before .before .before .before .before .before .before .before .before .before .loop .tests) (c .before .before .before .before .before .before .before .before .before .before .before .before .before .before .before .before .before .before .before .before .before .before .before .before .before .before .before .loop .properties) (c .before .before .before .before .before .before .before .before .before .before .before .before .before .before .before .before .before .before .before .before .before .before .before .before .before .before .before .loop .numbers) (now (c .before .before .before .before .before .before .before .before .before .before .before .before .before .before .before .before .before .before .before .before .before .before .before .before .before .before .before .before .before .before .before .before .before .before .before .args .colors))) (suc k) y (λ σ. readBody (reading (now (c .before .before .before .before .before .before .before .before .before .before .before .before .before .before .before .before .before .before .before .before .before .before .before .before .before .before .before .before .before .before .before .before .before .before .before .args .bundle))) (suc k) (colorsOf (now (c .before .before .before .before .before .before .before .before .before .before .before .before .before .before .before .before .before .before .before .before .before .before .before .before .before .before .before .before .before .before .before .before .before .before .before .args .bundle)) (now (c .before .before .before .before .before .before .before .before .before .before .before .before .before .before .before .before .before .before .before .before .before .before .before .before .before .before .before .before .before .before .before .before .before .before .before .args .colors)) (c .before .before .before .before .before .before .before .before .before .before .before .before .before .before .before .before .before .before .before .before .before .before .before .before .before .before .before .before .before .before .before .before .before .before .before .args .n .colors)) (σ ∷ [])) (ruleNext (now (c .before .before .before .before .before .before .before .before .before .before .before .before .before .before .before .before .before .before .before .before .before .before .before .before .before .before .before .before .before .before .before .before .before .before .before .args .bundle)) (suc k) (colorsOf (now (c .before .before .before .before .before .before .before .before .before .before .before .before .before .before .before .before .before .before .before .before .before .before .before .before .before .before .before .before .before .before .before .before .before .before .before .args .bundle)) (now (c .before .before .before .before .before .before .before .before .before .before .before .before .before .before .before .before .before .before .before .before .before .before .before .before .before .before .before .before .before .before .before .before .before .before .before .args .colors)) (c .before .before .before .before .before .before .before .before .before .before .before .before .before .before .before .before .before .before .before .before .before .before .before .before .before .before .before .before .before .before .before .before .before .before .before .args .n .colors))) p (omega arith)) (c .before .before .before .before .before .before .before .before .before .before .before .d .given .1) (λ σ m. widen (omega arith) (c .before .before .before .before .before .before .read-body2 .ensures (lent (c .before .before .before .before .before .before .before .before .before .before .before .before .before .before .before .before .before .before .before .before .before .before .before .before .before .before .before .loop .k) (c .before .before .before .before .before .before .before .before .before .before .before .before .before .before .before .before .before .before .before .before .before .before .before .before .before .before .before .loop .rules) (c .before .before .before .before .before .before .before .before .before .before .before .before .before .before .before .before .before .before .before .read-choice .last .1 .1 .1 .1 .1 .0) (c .before .before .before .before .before .before .before .before .before .before .before .before .before .before .before .before .before .before .before .read-choice .last .1 .1 .1 .1 .1 .1 .0) (c .before .before .before .before .before .before .before .before .before .before .before .before .before .before .before .before .before .before .before .before .before .before .before .before .before .before .before .loop .properties) (c .before .before .before .before .before .before .before .before .before .before .before .before .before .before .before .before .before .before .before .read-choice .last .1 .1 .1 .1 .1 .1 .1 .0) (now (c .before .before .before .before .before .before .before .before .before .before .before .before .before .before .before .before .before .before .before .before .before .before .before .before .before .before .before .before .before .before .before .before .before .before .before .args .colors))) (suc k) (σ ∷ []) (omega arith)))))
 
 -- src/rule.rt:305:36
 enum-known-u : tie.Need-enum-known-u Inv-loop μ-loop
@@ -211,11 +211,11 @@ enum-known-u c = search needs
 
 -- src/rule.rt:268:5
 loop-less : tie.Need-loop-less Inv-loop μ-loop
-loop-less c = (start-object (λ a. left (now (c .before .before .before .before .before .before .before .before .before .before .before .before .before .before .before .before .before .before .before .before .before .before .before .before .before .args .bundle)) (c .before .before .before .before .before .before .before .before .before .before .before .before .before .before .before .before .before .before .before .before .before .before .before .before .before .args .source) (c .before .u .given .0 .1 .1 .0) < left (now (c .before .before .before .before .before .before .before .before .before .before .before .before .before .before .before .before .before .before .before .before .before .before .before .before .before .args .bundle)) (c .before .before .before .before .before .before .before .before .before .before .before .before .before .before .before .before .before .before .before .before .before .before .before .before .before .args .source) (c .before .before .before .before .before .before .before .before .before .before .before .before .before .before .before .before .before .loop .at)) (rule-starts (now (c .before .before .before .before .before .before .before .before .before .before .before .before .before .before .before .before .before .before .before .before .before .before .before .before .before .args .bundle)) (suc (left (now (c .before .before .before .before .before .before .before .before .before .before .before .before .before .before .before .before .before .before .before .before .before .before .before .before .before .args .bundle)) (c .before .before .before .before .before .before .before .before .before .before .before .before .before .before .before .before .before .before .before .before .before .before .before .before .before .args .source) (c .before .before .before .before .before .before .before .before .before .before .before .before .before .before .before .before .before .loop .at))) (colorsOf (now (c .before .before .before .before .before .before .before .before .before .before .before .before .before .before .before .before .before .before .before .before .before .before .before .before .before .args .bundle)) (now (c .before .before .before .before .before .before .before .before .before .before .before .before .before .before .before .before .before .before .before .before .before .before .before .before .before .args .colors)) (c .before .before .before .before .before .before .before .before .before .before .before .before .before .before .before .before .before .before .before .before .before .before .before .before .before .args .n .colors)) (lent (c .before .before .before .before .before .before .before .before .before .before .before .before .before .before .before .before .before .before .before .before .before .before .before .before .before .args .n) [] [] [] [] [] []) (tokenOf (now (c .before .before .before .before .before .before .before .before .before .before .before .before .before .before .before .before .before .before .before .before .before .before .before .before .before .args .bundle)) (c .before .before .before .before .before .before .before .before .before .before .before .before .before .before .before .before .before .loop .first)) (c .before .before .before .before .before .before .before .before .before .before .before .before .before .before .before .before .before .loop .begins) (spot (c .before .before .before .before .before .before .before .before .before .before .before .before .before .before .before .before .before .before .before .before .before .before .before .before .before .args .source) (c .before .before .before .before .before .before .before .before .before .before .before .before .before .before .before .before .before .loop .at)) (c .before .before .before .before .before .before .before .before .before .before .before .before .before .before .before .before .rule-start .ensures (lent (c .before .before .before .before .before .before .before .before .before .before .before .before .before .before .before .before .before .before .before .before .before .before .before .before .before .args .n) [] [] [] [] [] []) (ruleBody (now (c .before .before .before .before .before .before .before .before .before .before .before .before .before .before .before .before .before .before .before .before .before .before .before .before .before .args .bundle)) (suc (left (now (c .before .before .before .before .before .before .before .before .before .before .before .before .before .before .before .before .before .before .before .before .before .before .before .before .before .args .bundle)) (c .before .before .before .before .before .before .before .before .before .before .before .before .before .before .before .before .before .before .before .before .before .before .before .before .before .args .source) (c .before .before .before .before .before .before .before .before .before .before .before .before .before .before .before .before .before .loop .at))) (colorsOf (now (c .before .before .before .before .before .before .before .before .before .before .before .before .before .before .before .before .before .before .before .before .before .before .before .before .before .args .bundle)) (now (c .before .before .before .before .before .before .before .before .before .before .before .before .before .before .before .before .before .before .before .before .before .before .before .before .before .args .colors)) (c .before .before .before .before .before .before .before .before .before .before .before .before .before .before .before .before .before .before .before .before .before .before .before .before .before .args .n .colors)) (spot (c .before .before .before .before .before .before .before .before .before .before .before .before .before .before .before .before .before .before .before .before .before .before .before .before .before .args .source) (c .before .before .before .before .before .before .before .before .before .before .before .before .before .before .before .before .before .loop .at)) (lent (c .before .before .before .before .before .before .before .before .before .before .before .before .before .before .before .before .before .before .before .before .before .before .before .before .before .args .n) [] [] [] [] [] [])) (ruleBlock (now (c .before .before .before .before .before .before .before .before .before .before .before .before .before .before .before .before .before .before .before .before .before .before .before .before .before .args .bundle)) (suc (left (now (c .before .before .before .before .before .before .before .before .before .before .before .before .before .before .before .before .before .before .before .before .before .before .before .before .before .args .bundle)) (c .before .before .before .before .before .before .before .before .before .before .before .before .before .before .before .before .before .before .before .before .before .before .before .before .before .args .source) (c .before .before .before .before .before .before .before .before .before .before .before .before .before .before .before .before .before .loop .at))) (colorsOf (now (c .before .before .before .before .before .before .before .before .before .before .before .before .before .before .before .before .before .before .before .before .before .before .before .before .before .args .bundle)) (now (c .before .before .before .before .before .before .before .before .before .before .before .before .before .before .before .before .before .before .before .before .before .before .before .before .before .args .colors)) (c .before .before .before .before .before .before .before .before .before .before .before .before .before .before .before .before .before .before .before .before .before .before .before .before .before .args .n .colors)) (spot (c .before .before .before .before .before .before .before .before .before .before .before .before .before .before .before .before .before .before .before .before .before .before .before .before .before .args .source) (c .before .before .before .before .before .before .before .before .before .before .before .before .before .before .before .before .before .loop .at)) (lent (c .before .before .before .before .before .before .before .before .before .before .before .before .before .before .before .before .before .before .before .before .before .before .before .before .before .args .n) [] [] [] [] [] [])) (ruleObject (now (c .before .before .before .before .before .before .before .before .before .before .before .before .before .before .before .before .before .before .before .before .before .before .before .before .before .args .bundle)) (suc (left (now (c .before .before .before .before .before .before .before .before .before .before .before .before .before .before .before .before .before .before .before .before .before .before .before .before .before .args .bundle)) (c .before .before .before .before .before .before .before .before .before .before .before .before .before .before .before .before .before .before .before .before .before .before .before .before .before .args .source) (c .before .before .before .before .before .before .before .before .before .before .before .before .before .before .before .before .before .loop .at))) (colorsOf (now (c .before .before .before .before .before .before .before .before .before .before .before .before .before .before .before .before .before .before .before .before .before .before .before .before .before .args .bundle)) (now (c .before .before .before .before .before .before .before .before .before .before .before .before .before .before .before .before .before .before .before .before .before .before .before .before .before .args .colors)) (c .before .before .before .before .before .before .before .before .before .before .before .before .before .before .before .before .before .before .before .before .before .before .before .before .before .args .n .colors)) (spot (c .before .before .before .before .before .before .before .before .before .before .before .before .before .before .before .before .before .before .before .before .before .before .before .before .before .args .source) (c .before .before .before .before .before .before .before .before .before .before .before .before .before .before .before .before .before .loop .at)) (lent (c .before .before .before .before .before .before .before .before .before .before .before .before .before .before .before .before .before .before .before .before .before .before .before .before .before .args .n) [] [] [] [] [] [])) (ruleChosen (now (c .before .before .before .before .before .before .before .before .before .before .before .before .before .before .before .before .before .before .before .before .before .before .before .before .before .args .bundle)) (suc (left (now (c .before .before .before .before .before .before .before .before .before .before .before .before .before .before .before .before .before .before .before .before .before .before .before .before .before .args .bundle)) (c .before .before .before .before .before .before .before .before .before .before .before .before .before .before .before .before .before .before .before .before .before .before .before .before .before .args .source) (c .before .before .before .before .before .before .before .before .before .before .before .before .before .before .before .before .before .loop .at))) (colorsOf (now (c .before .before .before .before .before .before .before .before .before .before .before .before .before .before .before .before .before .before .before .before .before .before .before .before .before .args .bundle)) (now (c .before .before .before .before .before .before .before .before .before .before .before .before .before .before .before .before .before .before .before .before .before .before .before .before .before .args .colors)) (c .before .before .before .before .before .before .before .before .before .before .before .before .before .before .before .before .before .before .before .before .before .before .before .before .before .args .n .colors))))) (c .before .before .before .before .before .before .before .before .before .before .before .before .before .before .kind .given .1) (λ y p. choice-next (λ a. left (now (c .before .before .before .before .before .before .before .before .before .before .before .before .before .before .before .before .before .before .before .before .before .before .before .before .before .args .bundle)) (c .before .before .before .before .before .before .before .before .before .before .before .before .before .before .before .before .before .before .before .before .before .before .before .before .before .args .source) (c .before .u .given .0 .1 .1 .0) < left (now (c .before .before .before .before .before .before .before .before .before .before .before .before .before .before .before .before .before .before .before .before .before .before .before .before .before .args .bundle)) (c .before .before .before .before .before .before .before .before .before .before .before .before .before .before .before .before .before .before .before .before .before .before .before .before .before .args .source) (c .before .before .before .before .before .before .before .before .before .before .before .before .before .before .before .before .before .loop .at)) (c .before .before .before .before .before .before .before .before .before .read-choice .ensures (lent (c .before .before .before .before .before .before .before .before .before .before .before .before .before .before .before .before .before .before .before .before .before .before .before .before .before .args .n) [] [] [] [] [] []) (suc (left (now (c .before .before .before .before .before .before .before .before .before .before .before .before .before .before .before .before .before .before .before .before .before .before .before .before .before .args .bundle)) (c .before .before .before .before .before .before .before .before .before .before .before .before .before .before .before .before .before .before .before .before .before .before .before .before .before .args .source) (c .before .before .before .before .before .before .before .before .before .before .before .before .before .before .before .before .before .loop .at))) y (ruleLast (now (c .before .before .before .before .before .before .before .before .before .before .before .before .before .before .before .before .before .before .before .before .before .before .before .before .before .args .bundle)) (suc (left (now (c .before .before .before .before .before .before .before .before .before .before .before .before .before .before .before .before .before .before .before .before .before .before .before .before .before .args .bundle)) (c .before .before .before .before .before .before .before .before .before .before .before .before .before .before .before .before .before .before .before .before .before .before .before .before .before .args .source) (c .before .before .before .before .before .before .before .before .before .before .before .before .before .before .before .before .before .loop .at))) (colorsOf (now (c .before .before .before .before .before .before .before .before .before .before .before .before .before .before .before .before .before .before .before .before .before .before .before .before .before .args .bundle)) (now (c .before .before .before .before .before .before .before .before .before .before .before .before .before .before .before .before .before .before .before .before .before .before .before .before .before .args .colors)) (c .before .before .before .before .before .before .before .before .before .before .before .before .before .before .before .before .before .before .before .before .before .before .before .before .before .args .n .colors))) (ruleNext (now (c .before .before .before .before .before .before .before .before .before .before .before .before .before .before .before .before .before .before .before .before .before .before .before .before .before .args .bundle)) (suc (left (now (c .before .before .before .before .before .before .before .before .before .before .before .before .before .before .before .before .before .before .before .before .before .before .before .before .before .args .bundle)) (c .before .before .before .before .before .before .before .before .before .before .before .before .before .before .before .before .before .before .before .before .before .before .before .before .before .args .source) (c .before .before .before .before .before .before .before .before .before .before .before .before .before .before .before .before .before .loop .at))) (colorsOf (now (c .before .before .before .before .before .before .before .before .before .before .before .before .before .before .before .before .before .before .before .before .before .before .before .before .before .args .bundle)) (now (c .before .before .before .before .before .before .before .before .before .before .before .before .before .before .before .before .before .before .before .before .before .before .before .before .before .args .colors)) (c .before .before .before .before .before .before .before .before .before .before .before .before .before .before .before .before .before .before .before .before .before .before .before .before .before .args .n .colors))) p (omega arith)) (c .before .u .given .1) (λ σ m. m)))
+loop-less c = (start-object (λ a. left (now (c .before .before .before .before .before .before .before .before .before .before .before .before .before .before .before .before .before .before .before .before .before .before .before .before .before .args .bundle)) (c .before .before .before .before .before .before .before .before .before .before .before .before .before .before .before .before .before .before .before .before .before .before .before .before .before .args .source) (c .before .u .given .0 .1 .1 .0) < left (now (c .before .before .before .before .before .before .before .before .before .before .before .before .before .before .before .before .before .before .before .before .before .before .before .before .before .args .bundle)) (c .before .before .before .before .before .before .before .before .before .before .before .before .before .before .before .before .before .before .before .before .before .before .before .before .before .args .source) (c .before .before .before .before .before .before .before .before .before .before .before .before .before .before .before .before .before .loop .at)) (rule-starts (now (c .before .before .before .before .before .before .before .before .before .before .before .before .before .before .before .before .before .before .before .before .before .before .before .before .before .args .bundle)) (suc (left (now (c .before .before .before .before .before .before .before .before .before .before .before .before .before .before .before .before .before .before .before .before .before .before .before .before .before .args .bundle)) (c .before .before .before .before .before .before .before .before .before .before .before .before .before .before .before .before .before .before .before .before .before .before .before .before .before .args .source) (c .before .before .before .before .before .before .before .before .before .before .before .before .before .before .before .before .before .loop .at))) (colorsOf (now (c .before .before .before .before .before .before .before .before .before .before .before .before .before .before .before .before .before .before .before .before .before .before .before .before .before .args .bundle)) (now (c .before .before .before .before .before .before .before .before .before .before .before .before .before .before .before .before .before .before .before .before .before .before .before .before .before .args .colors)) (c .before .before .before .before .before .before .before .before .before .before .before .before .before .before .before .before .before .before .before .before .before .before .before .before .before .args .n .colors)) (lent (c .before .before .before .before .before .before .before .before .before .before .before .before .before .before .before .before .before .before .before .before .before .before .before .before .before .args .n) [] [] [] [] [] []) (tokenOf (now (c .before .before .before .before .before .before .before .before .before .before .before .before .before .before .before .before .before .before .before .before .before .before .before .before .before .args .bundle)) (c .before .before .before .before .before .before .before .before .before .before .before .before .before .before .before .before .before .loop .first)) (c .before .before .before .before .before .before .before .before .before .before .before .before .before .before .before .before .before .loop .begins) (spot (c .before .before .before .before .before .before .before .before .before .before .before .before .before .before .before .before .before .before .before .before .before .before .before .before .before .args .source) (c .before .before .before .before .before .before .before .before .before .before .before .before .before .before .before .before .before .loop .at)) (c .before .before .before .before .before .before .before .before .before .before .before .before .before .before .before .before .rule-start .ensures (lent (c .before .before .before .before .before .before .before .before .before .before .before .before .before .before .before .before .before .before .before .before .before .before .before .before .before .args .n) [] [] [] [] [] []) (readBody (reading (now (c .before .before .before .before .before .before .before .before .before .before .before .before .before .before .before .before .before .before .before .before .before .before .before .before .before .args .bundle))) (suc (left (now (c .before .before .before .before .before .before .before .before .before .before .before .before .before .before .before .before .before .before .before .before .before .before .before .before .before .args .bundle)) (c .before .before .before .before .before .before .before .before .before .before .before .before .before .before .before .before .before .before .before .before .before .before .before .before .before .args .source) (c .before .before .before .before .before .before .before .before .before .before .before .before .before .before .before .before .before .loop .at))) (colorsOf (now (c .before .before .before .before .before .before .before .before .before .before .before .before .before .before .before .before .before .before .before .before .before .before .before .before .before .args .bundle)) (now (c .before .before .before .before .before .before .before .before .before .before .before .before .before .before .before .before .before .before .before .before .before .before .before .before .before .args .colors)) (c .before .before .before .before .before .before .before .before .before .before .before .before .before .before .before .before .before .before .before .before .before .before .before .before .before .args .n .colors)) [] (spot (c .before .before .before .before .before .before .before .before .before .before .before .before .before .before .before .before .before .before .before .before .before .before .before .before .before .args .source) (c .before .before .before .before .before .before .before .before .before .before .before .before .before .before .before .before .before .loop .at)) (lent (c .before .before .before .before .before .before .before .before .before .before .before .before .before .before .before .before .before .before .before .before .before .before .before .before .before .args .n) [] [] [] [] [] [])) (readBlock (reading (now (c .before .before .before .before .before .before .before .before .before .before .before .before .before .before .before .before .before .before .before .before .before .before .before .before .before .args .bundle))) (suc (left (now (c .before .before .before .before .before .before .before .before .before .before .before .before .before .before .before .before .before .before .before .before .before .before .before .before .before .args .bundle)) (c .before .before .before .before .before .before .before .before .before .before .before .before .before .before .before .before .before .before .before .before .before .before .before .before .before .args .source) (c .before .before .before .before .before .before .before .before .before .before .before .before .before .before .before .before .before .loop .at))) (spot (c .before .before .before .before .before .before .before .before .before .before .before .before .before .before .before .before .before .before .before .before .before .before .before .before .before .args .source) (c .before .before .before .before .before .before .before .before .before .before .before .before .before .before .before .before .before .loop .at)) (lent (c .before .before .before .before .before .before .before .before .before .before .before .before .before .before .before .before .before .before .before .before .before .before .before .before .before .args .n) [] [] [] [] [] [])) (ruleObject (now (c .before .before .before .before .before .before .before .before .before .before .before .before .before .before .before .before .before .before .before .before .before .before .before .before .before .args .bundle)) (suc (left (now (c .before .before .before .before .before .before .before .before .before .before .before .before .before .before .before .before .before .before .before .before .before .before .before .before .before .args .bundle)) (c .before .before .before .before .before .before .before .before .before .before .before .before .before .before .before .before .before .before .before .before .before .before .before .before .before .args .source) (c .before .before .before .before .before .before .before .before .before .before .before .before .before .before .before .before .before .loop .at))) (colorsOf (now (c .before .before .before .before .before .before .before .before .before .before .before .before .before .before .before .before .before .before .before .before .before .before .before .before .before .args .bundle)) (now (c .before .before .before .before .before .before .before .before .before .before .before .before .before .before .before .before .before .before .before .before .before .before .before .before .before .args .colors)) (c .before .before .before .before .before .before .before .before .before .before .before .before .before .before .before .before .before .before .before .before .before .before .before .before .before .args .n .colors)) (spot (c .before .before .before .before .before .before .before .before .before .before .before .before .before .before .before .before .before .before .before .before .before .before .before .before .before .args .source) (c .before .before .before .before .before .before .before .before .before .before .before .before .before .before .before .before .before .loop .at)) (lent (c .before .before .before .before .before .before .before .before .before .before .before .before .before .before .before .before .before .before .before .before .before .before .before .before .before .args .n) [] [] [] [] [] [])) (ruleChosen (now (c .before .before .before .before .before .before .before .before .before .before .before .before .before .before .before .before .before .before .before .before .before .before .before .before .before .args .bundle)) (suc (left (now (c .before .before .before .before .before .before .before .before .before .before .before .before .before .before .before .before .before .before .before .before .before .before .before .before .before .args .bundle)) (c .before .before .before .before .before .before .before .before .before .before .before .before .before .before .before .before .before .before .before .before .before .before .before .before .before .args .source) (c .before .before .before .before .before .before .before .before .before .before .before .before .before .before .before .before .before .loop .at))) (colorsOf (now (c .before .before .before .before .before .before .before .before .before .before .before .before .before .before .before .before .before .before .before .before .before .before .before .before .before .args .bundle)) (now (c .before .before .before .before .before .before .before .before .before .before .before .before .before .before .before .before .before .before .before .before .before .before .before .before .before .args .colors)) (c .before .before .before .before .before .before .before .before .before .before .before .before .before .before .before .before .before .before .before .before .before .before .before .before .before .args .n .colors))))) (c .before .before .before .before .before .before .before .before .before .before .before .before .before .before .kind .given .1) (λ y p. choice-next (λ a. left (now (c .before .before .before .before .before .before .before .before .before .before .before .before .before .before .before .before .before .before .before .before .before .before .before .before .before .args .bundle)) (c .before .before .before .before .before .before .before .before .before .before .before .before .before .before .before .before .before .before .before .before .before .before .before .before .before .args .source) (c .before .u .given .0 .1 .1 .0) < left (now (c .before .before .before .before .before .before .before .before .before .before .before .before .before .before .before .before .before .before .before .before .before .before .before .before .before .args .bundle)) (c .before .before .before .before .before .before .before .before .before .before .before .before .before .before .before .before .before .before .before .before .before .before .before .before .before .args .source) (c .before .before .before .before .before .before .before .before .before .before .before .before .before .before .before .before .before .loop .at)) (c .before .before .before .before .before .before .before .before .before .read-choice .ensures (lent (c .before .before .before .before .before .before .before .before .before .before .before .before .before .before .before .before .before .before .before .before .before .before .before .before .before .args .n) [] [] [] [] [] []) (suc (left (now (c .before .before .before .before .before .before .before .before .before .before .before .before .before .before .before .before .before .before .before .before .before .before .before .before .before .args .bundle)) (c .before .before .before .before .before .before .before .before .before .before .before .before .before .before .before .before .before .before .before .before .before .before .before .before .before .args .source) (c .before .before .before .before .before .before .before .before .before .before .before .before .before .before .before .before .before .loop .at))) y (λ σ. readBody (reading (now (c .before .before .before .before .before .before .before .before .before .before .before .before .before .before .before .before .before .before .before .before .before .before .before .before .before .args .bundle))) (suc (left (now (c .before .before .before .before .before .before .before .before .before .before .before .before .before .before .before .before .before .before .before .before .before .before .before .before .before .args .bundle)) (c .before .before .before .before .before .before .before .before .before .before .before .before .before .before .before .before .before .before .before .before .before .before .before .before .before .args .source) (c .before .before .before .before .before .before .before .before .before .before .before .before .before .before .before .before .before .loop .at))) (colorsOf (now (c .before .before .before .before .before .before .before .before .before .before .before .before .before .before .before .before .before .before .before .before .before .before .before .before .before .args .bundle)) (now (c .before .before .before .before .before .before .before .before .before .before .before .before .before .before .before .before .before .before .before .before .before .before .before .before .before .args .colors)) (c .before .before .before .before .before .before .before .before .before .before .before .before .before .before .before .before .before .before .before .before .before .before .before .before .before .args .n .colors)) (σ ∷ [])) (ruleNext (now (c .before .before .before .before .before .before .before .before .before .before .before .before .before .before .before .before .before .before .before .before .before .before .before .before .before .args .bundle)) (suc (left (now (c .before .before .before .before .before .before .before .before .before .before .before .before .before .before .before .before .before .before .before .before .before .before .before .before .before .args .bundle)) (c .before .before .before .before .before .before .before .before .before .before .before .before .before .before .before .before .before .before .before .before .before .before .before .before .before .args .source) (c .before .before .before .before .before .before .before .before .before .before .before .before .before .before .before .before .before .loop .at))) (colorsOf (now (c .before .before .before .before .before .before .before .before .before .before .before .before .before .before .before .before .before .before .before .before .before .before .before .before .before .args .bundle)) (now (c .before .before .before .before .before .before .before .before .before .before .before .before .before .before .before .before .before .before .before .before .before .before .before .before .before .args .colors)) (c .before .before .before .before .before .before .before .before .before .before .before .before .before .before .before .before .before .before .before .before .before .before .before .before .before .args .n .colors))) p (omega arith)) (c .before .u .given .1) (λ σ m. m)))
 
 -- src/rule.rt:268:5
 loop-again : tie.Need-loop-again Inv-loop μ-loop
-loop-again c = (λ f h. goes-on (Reads _ _) _ _ _ _ _ _ _ _ (c .before .before .before .before .before .before .before .before .before .before .before .before .before .before .before .before .before .loop .inv .0 f h) (start-object (λ a. left (now (c .before .before .before .before .before .before .before .before .before .before .before .before .before .before .before .before .before .before .before .before .before .before .before .before .before .args .bundle)) (c .before .before .before .before .before .before .before .before .before .before .before .before .before .before .before .before .before .before .before .before .before .before .before .before .before .args .source) (c .before .u .given .0 .1 .1 .0) < left (now (c .before .before .before .before .before .before .before .before .before .before .before .before .before .before .before .before .before .before .before .before .before .before .before .before .before .args .bundle)) (c .before .before .before .before .before .before .before .before .before .before .before .before .before .before .before .before .before .before .before .before .before .before .before .before .before .args .source) (c .before .before .before .before .before .before .before .before .before .before .before .before .before .before .before .before .before .loop .at)) (rule-starts (now (c .before .before .before .before .before .before .before .before .before .before .before .before .before .before .before .before .before .before .before .before .before .before .before .before .before .args .bundle)) (suc (left (now (c .before .before .before .before .before .before .before .before .before .before .before .before .before .before .before .before .before .before .before .before .before .before .before .before .before .args .bundle)) (c .before .before .before .before .before .before .before .before .before .before .before .before .before .before .before .before .before .before .before .before .before .before .before .before .before .args .source) (c .before .before .before .before .before .before .before .before .before .before .before .before .before .before .before .before .before .loop .at))) (colorsOf (now (c .before .before .before .before .before .before .before .before .before .before .before .before .before .before .before .before .before .before .before .before .before .before .before .before .before .args .bundle)) (now (c .before .before .before .before .before .before .before .before .before .before .before .before .before .before .before .before .before .before .before .before .before .before .before .before .before .args .colors)) (c .before .before .before .before .before .before .before .before .before .before .before .before .before .before .before .before .before .before .before .before .before .before .before .before .before .args .n .colors)) (lent (c .before .before .before .before .before .before .before .before .before .before .before .before .before .before .before .before .before .before .before .before .before .before .before .before .before .args .n) [] [] [] [] [] []) (tokenOf (now (c .before .before .before .before .before .before .before .before .before .before .before .before .before .before .before .before .before .before .before .before .before .before .before .before .before .args .bundle)) (c .before .before .before .before .before .before .before .before .before .before .before .before .before .before .before .before .before .loop .first)) (c .before .before .before .before .before .before .before .before .before .before .before .before .before .before .before .before .before .loop .begins) (spot (c .before .before .before .before .before .before .before .before .before .before .before .before .before .before .before .before .before .before .before .before .before .before .before .before .before .args .source) (c .before .before .before .before .before .before .before .before .before .before .before .before .before .before .before .before .before .loop .at)) (c .before .before .before .before .before .before .before .before .before .before .before .before .before .before .before .before .rule-start .ensures (lent (c .before .before .before .before .before .before .before .before .before .before .before .before .before .before .before .before .before .before .before .before .before .before .before .before .before .args .n) [] [] [] [] [] []) (ruleBody (now (c .before .before .before .before .before .before .before .before .before .before .before .before .before .before .before .before .before .before .before .before .before .before .before .before .before .args .bundle)) (suc (left (now (c .before .before .before .before .before .before .before .before .before .before .before .before .before .before .before .before .before .before .before .before .before .before .before .before .before .args .bundle)) (c .before .before .before .before .before .before .before .before .before .before .before .before .before .before .before .before .before .before .before .before .before .before .before .before .before .args .source) (c .before .before .before .before .before .before .before .before .before .before .before .before .before .before .before .before .before .loop .at))) (colorsOf (now (c .before .before .before .before .before .before .before .before .before .before .before .before .before .before .before .before .before .before .before .before .before .before .before .before .before .args .bundle)) (now (c .before .before .before .before .before .before .before .before .before .before .before .before .before .before .before .before .before .before .before .before .before .before .before .before .before .args .colors)) (c .before .before .before .before .before .before .before .before .before .before .before .before .before .before .before .before .before .before .before .before .before .before .before .before .before .args .n .colors)) (spot (c .before .before .before .before .before .before .before .before .before .before .before .before .before .before .before .before .before .before .before .before .before .before .before .before .before .args .source) (c .before .before .before .before .before .before .before .before .before .before .before .before .before .before .before .before .before .loop .at)) (lent (c .before .before .before .before .before .before .before .before .before .before .before .before .before .before .before .before .before .before .before .before .before .before .before .before .before .args .n) [] [] [] [] [] [])) (ruleBlock (now (c .before .before .before .before .before .before .before .before .before .before .before .before .before .before .before .before .before .before .before .before .before .before .before .before .before .args .bundle)) (suc (left (now (c .before .before .before .before .before .before .before .before .before .before .before .before .before .before .before .before .before .before .before .before .before .before .before .before .before .args .bundle)) (c .before .before .before .before .before .before .before .before .before .before .before .before .before .before .before .before .before .before .before .before .before .before .before .before .before .args .source) (c .before .before .before .before .before .before .before .before .before .before .before .before .before .before .before .before .before .loop .at))) (colorsOf (now (c .before .before .before .before .before .before .before .before .before .before .before .before .before .before .before .before .before .before .before .before .before .before .before .before .before .args .bundle)) (now (c .before .before .before .before .before .before .before .before .before .before .before .before .before .before .before .before .before .before .before .before .before .before .before .before .before .args .colors)) (c .before .before .before .before .before .before .before .before .before .before .before .before .before .before .before .before .before .before .before .before .before .before .before .before .before .args .n .colors)) (spot (c .before .before .before .before .before .before .before .before .before .before .before .before .before .before .before .before .before .before .before .before .before .before .before .before .before .args .source) (c .before .before .before .before .before .before .before .before .before .before .before .before .before .before .before .before .before .loop .at)) (lent (c .before .before .before .before .before .before .before .before .before .before .before .before .before .before .before .before .before .before .before .before .before .before .before .before .before .args .n) [] [] [] [] [] [])) (ruleObject (now (c .before .before .before .before .before .before .before .before .before .before .before .before .before .before .before .before .before .before .before .before .before .before .before .before .before .args .bundle)) (suc (left (now (c .before .before .before .before .before .before .before .before .before .before .before .before .before .before .before .before .before .before .before .before .before .before .before .before .before .args .bundle)) (c .before .before .before .before .before .before .before .before .before .before .before .before .before .before .before .before .before .before .before .before .before .before .before .before .before .args .source) (c .before .before .before .before .before .before .before .before .before .before .before .before .before .before .before .before .before .loop .at))) (colorsOf (now (c .before .before .before .before .before .before .before .before .before .before .before .before .before .before .before .before .before .before .before .before .before .before .before .before .before .args .bundle)) (now (c .before .before .before .before .before .before .before .before .before .before .before .before .before .before .before .before .before .before .before .before .before .before .before .before .before .args .colors)) (c .before .before .before .before .before .before .before .before .before .before .before .before .before .before .before .before .before .before .before .before .before .before .before .before .before .args .n .colors)) (spot (c .before .before .before .before .before .before .before .before .before .before .before .before .before .before .before .before .before .before .before .before .before .before .before .before .before .args .source) (c .before .before .before .before .before .before .before .before .before .before .before .before .before .before .before .before .before .loop .at)) (lent (c .before .before .before .before .before .before .before .before .before .before .before .before .before .before .before .before .before .before .before .before .before .before .before .before .before .args .n) [] [] [] [] [] [])) (ruleChosen (now (c .before .before .before .before .before .before .before .before .before .before .before .before .before .before .before .before .before .before .before .before .before .before .before .before .before .args .bundle)) (suc (left (now (c .before .before .before .before .before .before .before .before .before .before .before .before .before .before .before .before .before .before .before .before .before .before .before .before .before .args .bundle)) (c .before .before .before .before .before .before .before .before .before .before .before .before .before .before .before .before .before .before .before .before .before .before .before .before .before .args .source) (c .before .before .before .before .before .before .before .before .before .before .before .before .before .before .before .before .before .loop .at))) (colorsOf (now (c .before .before .before .before .before .before .before .before .before .before .before .before .before .before .before .before .before .before .before .before .before .before .before .before .before .args .bundle)) (now (c .before .before .before .before .before .before .before .before .before .before .before .before .before .before .before .before .before .before .before .before .before .before .before .before .before .args .colors)) (c .before .before .before .before .before .before .before .before .before .before .before .before .before .before .before .before .before .before .before .before .before .before .before .before .before .args .n .colors))))) (c .before .before .before .before .before .before .before .before .before .before .before .before .before .before .kind .given .1) (λ y p. choice-next (λ a. left (now (c .before .before .before .before .before .before .before .before .before .before .before .before .before .before .before .before .before .before .before .before .before .before .before .before .before .args .bundle)) (c .before .before .before .before .before .before .before .before .before .before .before .before .before .before .before .before .before .before .before .before .before .before .before .before .before .args .source) (c .before .u .given .0 .1 .1 .0) < left (now (c .before .before .before .before .before .before .before .before .before .before .before .before .before .before .before .before .before .before .before .before .before .before .before .before .before .args .bundle)) (c .before .before .before .before .before .before .before .before .before .before .before .before .before .before .before .before .before .before .before .before .before .before .before .before .before .args .source) (c .before .before .before .before .before .before .before .before .before .before .before .before .before .before .before .before .before .loop .at)) (c .before .before .before .before .before .before .before .before .before .read-choice .ensures (lent (c .before .before .before .before .before .before .before .before .before .before .before .before .before .before .before .before .before .before .before .before .before .before .before .before .before .args .n) [] [] [] [] [] []) (suc (left (now (c .before .before .before .before .before .before .before .before .before .before .before .before .before .before .before .before .before .before .before .before .before .before .before .before .before .args .bundle)) (c .before .before .before .before .before .before .before .before .before .before .before .before .before .before .before .before .before .before .before .before .before .before .before .before .before .args .source) (c .before .before .before .before .before .before .before .before .before .before .before .before .before .before .before .before .before .loop .at))) y (ruleLast (now (c .before .before .before .before .before .before .before .before .before .before .before .before .before .before .before .before .before .before .before .before .before .before .before .before .before .args .bundle)) (suc (left (now (c .before .before .before .before .before .before .before .before .before .before .before .before .before .before .before .before .before .before .before .before .before .before .before .before .before .args .bundle)) (c .before .before .before .before .before .before .before .before .before .before .before .before .before .before .before .before .before .before .before .before .before .before .before .before .before .args .source) (c .before .before .before .before .before .before .before .before .before .before .before .before .before .before .before .before .before .loop .at))) (colorsOf (now (c .before .before .before .before .before .before .before .before .before .before .before .before .before .before .before .before .before .before .before .before .before .before .before .before .before .args .bundle)) (now (c .before .before .before .before .before .before .before .before .before .before .before .before .before .before .before .before .before .before .before .before .before .before .before .before .before .args .colors)) (c .before .before .before .before .before .before .before .before .before .before .before .before .before .before .before .before .before .before .before .before .before .before .before .before .before .args .n .colors))) (ruleNext (now (c .before .before .before .before .before .before .before .before .before .before .before .before .before .before .before .before .before .before .before .before .before .before .before .before .before .args .bundle)) (suc (left (now (c .before .before .before .before .before .before .before .before .before .before .before .before .before .before .before .before .before .before .before .before .before .before .before .before .before .args .bundle)) (c .before .before .before .before .before .before .before .before .before .before .before .before .before .before .before .before .before .before .before .before .before .before .before .before .before .args .source) (c .before .before .before .before .before .before .before .before .before .before .before .before .before .before .before .before .before .loop .at))) (colorsOf (now (c .before .before .before .before .before .before .before .before .before .before .before .before .before .before .before .before .before .before .before .before .before .before .before .before .before .args .bundle)) (now (c .before .before .before .before .before .before .before .before .before .before .before .before .before .before .before .before .before .before .before .before .before .before .before .before .before .args .colors)) (c .before .before .before .before .before .before .before .before .before .before .before .before .before .before .before .before .before .before .before .before .before .before .before .before .before .args .n .colors))) p (omega arith)) (c .before .u .given .1) (λ σ m. m))) (λ k l t r q. start-object (Reads _ _ _ _ _) (rule-starts (now (c .before .before .before .before .before .before .before .before .before .before .before .before .before .before .before .before .before .before .before .before .before .before .before .before .before .args .bundle)) (suc k) (colorsOf (now (c .before .before .before .before .before .before .before .before .before .before .before .before .before .before .before .before .before .before .before .before .before .before .before .before .before .args .bundle)) (now (c .before .before .before .before .before .before .before .before .before .before .before .before .before .before .before .before .before .before .before .before .before .before .before .before .before .args .colors)) (c .before .before .before .before .before .before .before .before .before .before .before .before .before .before .before .before .before .before .before .before .before .before .before .before .before .args .n .colors)) (lent (c .before .before .before .before .before .before .before .before .before .before .before .before .before .before .before .before .before .loop .k) (c .before .before .before .before .before .before .before .before .before .before .before .before .before .before .before .before .before .loop .rules) (c .before .before .before .before .before .before .before .before .before .before .before .before .before .before .before .before .before .loop .selectors) (c .before .before .before .before .before .before .before .before .before .before .before .before .before .before .before .before .before .loop .tests) (c .before .before .before .before .before .before .before .before .before .before .before .before .before .before .before .before .before .loop .properties) (c .before .before .before .before .before .before .before .before .before .before .before .before .before .before .before .before .before .loop .numbers) (now (c .before .before .before .before .before .before .before .before .before .before .before .before .before .before .before .before .before .before .before .before .before .before .before .before .before .args .colors))) (tokenOf (now (c .before .before .before .before .before .before .before .before .before .before .before .before .before .before .before .before .before .before .before .before .before .before .before .before .before .args .bundle)) (c .before .before .before .before .before .before .before .before .before .before .before .before .before .before .before .before .before .loop .first)) (c .before .before .before .before .before .before .before .before .before .before .before .before .before .before .before .before .before .loop .begins) (spot (c .before .before .before .before .before .before .before .before .before .before .before .before .before .before .before .before .before .before .before .before .before .before .before .before .before .args .source) (c .before .before .before .before .before .before .before .before .before .before .before .before .before .before .before .before .before .loop .at)) (c .before .before .before .before .before .before .before .before .before .before .before .before .before .before .before .before .rule-start .ensures (lent (c .before .before .before .before .before .before .before .before .before .before .before .before .before .before .before .before .before .loop .k) (c .before .before .before .before .before .before .before .before .before .before .before .before .before .before .before .before .before .loop .rules) (c .before .before .before .before .before .before .before .before .before .before .before .before .before .before .before .before .before .loop .selectors) (c .before .before .before .before .before .before .before .before .before .before .before .before .before .before .before .before .before .loop .tests) (c .before .before .before .before .before .before .before .before .before .before .before .before .before .before .before .before .before .loop .properties) (c .before .before .before .before .before .before .before .before .before .before .before .before .before .before .before .before .before .loop .numbers) (now (c .before .before .before .before .before .before .before .before .before .before .before .before .before .before .before .before .before .before .before .before .before .before .before .before .before .args .colors))) (ruleBody (now (c .before .before .before .before .before .before .before .before .before .before .before .before .before .before .before .before .before .before .before .before .before .before .before .before .before .args .bundle)) (suc k) (colorsOf (now (c .before .before .before .before .before .before .before .before .before .before .before .before .before .before .before .before .before .before .before .before .before .before .before .before .before .args .bundle)) (now (c .before .before .before .before .before .before .before .before .before .before .before .before .before .before .before .before .before .before .before .before .before .before .before .before .before .args .colors)) (c .before .before .before .before .before .before .before .before .before .before .before .before .before .before .before .before .before .before .before .before .before .before .before .before .before .args .n .colors)) (spot (c .before .before .before .before .before .before .before .before .before .before .before .before .before .before .before .before .before .before .before .before .before .before .before .before .before .args .source) (c .before .before .before .before .before .before .before .before .before .before .before .before .before .before .before .before .before .loop .at)) (lent (c .before .before .before .before .before .before .before .before .before .before .before .before .before .before .before .before .before .loop .k) (c .before .before .before .before .before .before .before .before .before .before .before .before .before .before .before .before .before .loop .rules) (c .before .before .before .before .before .before .before .before .before .before .before .before .before .before .before .before .before .loop .selectors) (c .before .before .before .before .before .before .before .before .before .before .before .before .before .before .before .before .before .loop .tests) (c .before .before .before .before .before .before .before .before .before .before .before .before .before .before .before .before .before .loop .properties) (c .before .before .before .before .before .before .before .before .before .before .before .before .before .before .before .before .before .loop .numbers) (now (c .before .before .before .before .before .before .before .before .before .before .before .before .before .before .before .before .before .before .before .before .before .before .before .before .before .args .colors)))) (ruleBlock (now (c .before .before .before .before .before .before .before .before .before .before .before .before .before .before .before .before .before .before .before .before .before .before .before .before .before .args .bundle)) (suc k) (colorsOf (now (c .before .before .before .before .before .before .before .before .before .before .before .before .before .before .before .before .before .before .before .before .before .before .before .before .before .args .bundle)) (now (c .before .before .before .before .before .before .before .before .before .before .before .before .before .before .before .before .before .before .before .before .before .before .before .before .before .args .colors)) (c .before .before .before .before .before .before .before .before .before .before .before .before .before .before .before .before .before .before .before .before .before .before .before .before .before .args .n .colors)) (spot (c .before .before .before .before .before .before .before .before .before .before .before .before .before .before .before .before .before .before .before .before .before .before .before .before .before .args .source) (c .before .before .before .before .before .before .before .before .before .before .before .before .before .before .before .before .before .loop .at)) (lent (c .before .before .before .before .before .before .before .before .before .before .before .before .before .before .before .before .before .loop .k) (c .before .before .before .before .before .before .before .before .before .before .before .before .before .before .before .before .before .loop .rules) (c .before .before .before .before .before .before .before .before .before .before .before .before .before .before .before .before .before .loop .selectors) (c .before .before .before .before .before .before .before .before .before .before .before .before .before .before .before .before .before .loop .tests) (c .before .before .before .before .before .before .before .before .before .before .before .before .before .before .before .before .before .loop .properties) (c .before .before .before .before .before .before .before .before .before .before .before .before .before .before .before .before .before .loop .numbers) (now (c .before .before .before .before .before .before .before .before .before .before .before .before .before .before .before .before .before .before .before .before .before .before .before .before .before .args .colors)))) (ruleObject (now (c .before .before .before .before .before .before .before .before .before .before .before .before .before .before .before .before .before .before .before .before .before .before .before .before .before .args .bundle)) (suc k) (colorsOf (now (c .before .before .before .before .before .before .before .before .before .before .before .before .before .before .before .before .before .before .before .before .before .before .before .before .before .args .bundle)) (now (c .before .before .before .before .before .before .before .before .before .before .before .before .before .before .before .before .before .before .before .before .before .before .before .before .before .args .colors)) (c .before .before .before .before .before .before .before .before .before .before .before .before .before .before .before .before .before .before .before .before .before .before .before .before .before .args .n .colors)) (spot (c .before .before .before .before .before .before .before .before .before .before .before .before .before .before .before .before .before .before .before .before .before .before .before .before .before .args .source) (c .before .before .before .before .before .before .before .before .before .before .before .before .before .before .before .before .before .loop .at)) (lent (c .before .before .before .before .before .before .before .before .before .before .before .before .before .before .before .before .before .loop .k) (c .before .before .before .before .before .before .before .before .before .before .before .before .before .before .before .before .before .loop .rules) (c .before .before .before .before .before .before .before .before .before .before .before .before .before .before .before .before .before .loop .selectors) (c .before .before .before .before .before .before .before .before .before .before .before .before .before .before .before .before .before .loop .tests) (c .before .before .before .before .before .before .before .before .before .before .before .before .before .before .before .before .before .loop .properties) (c .before .before .before .before .before .before .before .before .before .before .before .before .before .before .before .before .before .loop .numbers) (now (c .before .before .before .before .before .before .before .before .before .before .before .before .before .before .before .before .before .before .before .before .before .before .before .before .before .args .colors)))) (ruleChosen (now (c .before .before .before .before .before .before .before .before .before .before .before .before .before .before .before .before .before .before .before .before .before .before .before .before .before .args .bundle)) (suc k) (colorsOf (now (c .before .before .before .before .before .before .before .before .before .before .before .before .before .before .before .before .before .before .before .before .before .before .before .before .before .args .bundle)) (now (c .before .before .before .before .before .before .before .before .before .before .before .before .before .before .before .before .before .before .before .before .before .before .before .before .before .args .colors)) (c .before .before .before .before .before .before .before .before .before .before .before .before .before .before .before .before .before .before .before .before .before .before .before .before .before .args .n .colors))))) (c .before .before .before .before .before .before .before .before .before .before .before .before .before .before .kind .given .1) (λ y p. choice-next (Reads _ _ _ _ _) (c .before .before .before .before .before .before .before .before .before .read-choice .ensures (lent (c .before .before .before .before .before .before .before .before .before .before .before .before .before .before .before .before .before .loop .k) (c .before .before .before .before .before .before .before .before .before .before .before .before .before .before .before .before .before .loop .rules) (c .before .before .before .before .before .before .before .before .before .before .before .before .before .before .before .before .before .loop .selectors) (c .before .before .before .before .before .before .before .before .before .before .before .before .before .before .before .before .before .loop .tests) (c .before .before .before .before .before .before .before .before .before .before .before .before .before .before .before .before .before .loop .properties) (c .before .before .before .before .before .before .before .before .before .before .before .before .before .before .before .before .before .loop .numbers) (now (c .before .before .before .before .before .before .before .before .before .before .before .before .before .before .before .before .before .before .before .before .before .before .before .before .before .args .colors))) (suc k) y (ruleLast (now (c .before .before .before .before .before .before .before .before .before .before .before .before .before .before .before .before .before .before .before .before .before .before .before .before .before .args .bundle)) (suc k) (colorsOf (now (c .before .before .before .before .before .before .before .before .before .before .before .before .before .before .before .before .before .before .before .before .before .before .before .before .before .args .bundle)) (now (c .before .before .before .before .before .before .before .before .before .before .before .before .before .before .before .before .before .before .before .before .before .before .before .before .before .args .colors)) (c .before .before .before .before .before .before .before .before .before .before .before .before .before .before .before .before .before .before .before .before .before .before .before .before .before .args .n .colors))) (ruleNext (now (c .before .before .before .before .before .before .before .before .before .before .before .before .before .before .before .before .before .before .before .before .before .before .before .before .before .args .bundle)) (suc k) (colorsOf (now (c .before .before .before .before .before .before .before .before .before .before .before .before .before .before .before .before .before .before .before .before .before .before .before .before .before .args .bundle)) (now (c .before .before .before .before .before .before .before .before .before .before .before .before .before .before .before .before .before .before .before .before .before .before .before .before .before .args .colors)) (c .before .before .before .before .before .before .before .before .before .before .before .before .before .before .before .before .before .before .before .before .before .before .before .before .before .args .n .colors))) p (omega arith)) (c .before .u .given .1) (λ σ m. widen (omega arith) (after-reads _ _ q)))), (c .before .before .before .before .before .before .before .before .before .before .before .before .before .before .before .before .before .loop .inv .1 .0, (omega (arith, c .before .before .before .before .before .before .before .before .before .read-choice .kept .1 .1 .1 .1 .1 .0, c .before .before .before .before .before .before .before .before .before .before .before .before .before .before .before .before .before .loop .inv .1 .1 .0), (omega (arith, c .before .before .before .before .before .before .before .before .before .read-choice .kept .1 .1 .1 .1 .1 .1 .0, c .before .before .before .before .before .before .before .before .before .before .before .before .before .before .before .before .before .loop .inv .1 .1 .1 .0), (c .before .before .before .before .before .before .before .before .before .before .before .before .before .before .before .before .before .loop .inv .1 .1 .1 .1 .0, omega (arith, c .before .before .before .before .before .before .before .before .before .read-choice .kept .1 .1 .1 .1 .1 .1 .1 .0, c .before .before .before .before .before .before .before .before .before .before .before .before .before .before .before .before .before .loop .inv .1 .1 .1 .1 .1))))))
+loop-again c = (λ f h. goes-on (Reads _ _) _ _ _ _ _ _ _ _ (c .before .before .before .before .before .before .before .before .before .before .before .before .before .before .before .before .before .loop .inv .0 f h) (start-object (λ a. left (now (c .before .before .before .before .before .before .before .before .before .before .before .before .before .before .before .before .before .before .before .before .before .before .before .before .before .args .bundle)) (c .before .before .before .before .before .before .before .before .before .before .before .before .before .before .before .before .before .before .before .before .before .before .before .before .before .args .source) (c .before .u .given .0 .1 .1 .0) < left (now (c .before .before .before .before .before .before .before .before .before .before .before .before .before .before .before .before .before .before .before .before .before .before .before .before .before .args .bundle)) (c .before .before .before .before .before .before .before .before .before .before .before .before .before .before .before .before .before .before .before .before .before .before .before .before .before .args .source) (c .before .before .before .before .before .before .before .before .before .before .before .before .before .before .before .before .before .loop .at)) (rule-starts (now (c .before .before .before .before .before .before .before .before .before .before .before .before .before .before .before .before .before .before .before .before .before .before .before .before .before .args .bundle)) (suc (left (now (c .before .before .before .before .before .before .before .before .before .before .before .before .before .before .before .before .before .before .before .before .before .before .before .before .before .args .bundle)) (c .before .before .before .before .before .before .before .before .before .before .before .before .before .before .before .before .before .before .before .before .before .before .before .before .before .args .source) (c .before .before .before .before .before .before .before .before .before .before .before .before .before .before .before .before .before .loop .at))) (colorsOf (now (c .before .before .before .before .before .before .before .before .before .before .before .before .before .before .before .before .before .before .before .before .before .before .before .before .before .args .bundle)) (now (c .before .before .before .before .before .before .before .before .before .before .before .before .before .before .before .before .before .before .before .before .before .before .before .before .before .args .colors)) (c .before .before .before .before .before .before .before .before .before .before .before .before .before .before .before .before .before .before .before .before .before .before .before .before .before .args .n .colors)) (lent (c .before .before .before .before .before .before .before .before .before .before .before .before .before .before .before .before .before .before .before .before .before .before .before .before .before .args .n) [] [] [] [] [] []) (tokenOf (now (c .before .before .before .before .before .before .before .before .before .before .before .before .before .before .before .before .before .before .before .before .before .before .before .before .before .args .bundle)) (c .before .before .before .before .before .before .before .before .before .before .before .before .before .before .before .before .before .loop .first)) (c .before .before .before .before .before .before .before .before .before .before .before .before .before .before .before .before .before .loop .begins) (spot (c .before .before .before .before .before .before .before .before .before .before .before .before .before .before .before .before .before .before .before .before .before .before .before .before .before .args .source) (c .before .before .before .before .before .before .before .before .before .before .before .before .before .before .before .before .before .loop .at)) (c .before .before .before .before .before .before .before .before .before .before .before .before .before .before .before .before .rule-start .ensures (lent (c .before .before .before .before .before .before .before .before .before .before .before .before .before .before .before .before .before .before .before .before .before .before .before .before .before .args .n) [] [] [] [] [] []) (readBody (reading (now (c .before .before .before .before .before .before .before .before .before .before .before .before .before .before .before .before .before .before .before .before .before .before .before .before .before .args .bundle))) (suc (left (now (c .before .before .before .before .before .before .before .before .before .before .before .before .before .before .before .before .before .before .before .before .before .before .before .before .before .args .bundle)) (c .before .before .before .before .before .before .before .before .before .before .before .before .before .before .before .before .before .before .before .before .before .before .before .before .before .args .source) (c .before .before .before .before .before .before .before .before .before .before .before .before .before .before .before .before .before .loop .at))) (colorsOf (now (c .before .before .before .before .before .before .before .before .before .before .before .before .before .before .before .before .before .before .before .before .before .before .before .before .before .args .bundle)) (now (c .before .before .before .before .before .before .before .before .before .before .before .before .before .before .before .before .before .before .before .before .before .before .before .before .before .args .colors)) (c .before .before .before .before .before .before .before .before .before .before .before .before .before .before .before .before .before .before .before .before .before .before .before .before .before .args .n .colors)) [] (spot (c .before .before .before .before .before .before .before .before .before .before .before .before .before .before .before .before .before .before .before .before .before .before .before .before .before .args .source) (c .before .before .before .before .before .before .before .before .before .before .before .before .before .before .before .before .before .loop .at)) (lent (c .before .before .before .before .before .before .before .before .before .before .before .before .before .before .before .before .before .before .before .before .before .before .before .before .before .args .n) [] [] [] [] [] [])) (readBlock (reading (now (c .before .before .before .before .before .before .before .before .before .before .before .before .before .before .before .before .before .before .before .before .before .before .before .before .before .args .bundle))) (suc (left (now (c .before .before .before .before .before .before .before .before .before .before .before .before .before .before .before .before .before .before .before .before .before .before .before .before .before .args .bundle)) (c .before .before .before .before .before .before .before .before .before .before .before .before .before .before .before .before .before .before .before .before .before .before .before .before .before .args .source) (c .before .before .before .before .before .before .before .before .before .before .before .before .before .before .before .before .before .loop .at))) (spot (c .before .before .before .before .before .before .before .before .before .before .before .before .before .before .before .before .before .before .before .before .before .before .before .before .before .args .source) (c .before .before .before .before .before .before .before .before .before .before .before .before .before .before .before .before .before .loop .at)) (lent (c .before .before .before .before .before .before .before .before .before .before .before .before .before .before .before .before .before .before .before .before .before .before .before .before .before .args .n) [] [] [] [] [] [])) (ruleObject (now (c .before .before .before .before .before .before .before .before .before .before .before .before .before .before .before .before .before .before .before .before .before .before .before .before .before .args .bundle)) (suc (left (now (c .before .before .before .before .before .before .before .before .before .before .before .before .before .before .before .before .before .before .before .before .before .before .before .before .before .args .bundle)) (c .before .before .before .before .before .before .before .before .before .before .before .before .before .before .before .before .before .before .before .before .before .before .before .before .before .args .source) (c .before .before .before .before .before .before .before .before .before .before .before .before .before .before .before .before .before .loop .at))) (colorsOf (now (c .before .before .before .before .before .before .before .before .before .before .before .before .before .before .before .before .before .before .before .before .before .before .before .before .before .args .bundle)) (now (c .before .before .before .before .before .before .before .before .before .before .before .before .before .before .before .before .before .before .before .before .before .before .before .before .before .args .colors)) (c .before .before .before .before .before .before .before .before .before .before .before .before .before .before .before .before .before .before .before .before .before .before .before .before .before .args .n .colors)) (spot (c .before .before .before .before .before .before .before .before .before .before .before .before .before .before .before .before .before .before .before .before .before .before .before .before .before .args .source) (c .before .before .before .before .before .before .before .before .before .before .before .before .before .before .before .before .before .loop .at)) (lent (c .before .before .before .before .before .before .before .before .before .before .before .before .before .before .before .before .before .before .before .before .before .before .before .before .before .args .n) [] [] [] [] [] [])) (ruleChosen (now (c .before .before .before .before .before .before .before .before .before .before .before .before .before .before .before .before .before .before .before .before .before .before .before .before .before .args .bundle)) (suc (left (now (c .before .before .before .before .before .before .before .before .before .before .before .before .before .before .before .before .before .before .before .before .before .before .before .before .before .args .bundle)) (c .before .before .before .before .before .before .before .before .before .before .before .before .before .before .before .before .before .before .before .before .before .before .before .before .before .args .source) (c .before .before .before .before .before .before .before .before .before .before .before .before .before .before .before .before .before .loop .at))) (colorsOf (now (c .before .before .before .before .before .before .before .before .before .before .before .before .before .before .before .before .before .before .before .before .before .before .before .before .before .args .bundle)) (now (c .before .before .before .before .before .before .before .before .before .before .before .before .before .before .before .before .before .before .before .before .before .before .before .before .before .args .colors)) (c .before .before .before .before .before .before .before .before .before .before .before .before .before .before .before .before .before .before .before .before .before .before .before .before .before .args .n .colors))))) (c .before .before .before .before .before .before .before .before .before .before .before .before .before .before .kind .given .1) (λ y p. choice-next (λ a. left (now (c .before .before .before .before .before .before .before .before .before .before .before .before .before .before .before .before .before .before .before .before .before .before .before .before .before .args .bundle)) (c .before .before .before .before .before .before .before .before .before .before .before .before .before .before .before .before .before .before .before .before .before .before .before .before .before .args .source) (c .before .u .given .0 .1 .1 .0) < left (now (c .before .before .before .before .before .before .before .before .before .before .before .before .before .before .before .before .before .before .before .before .before .before .before .before .before .args .bundle)) (c .before .before .before .before .before .before .before .before .before .before .before .before .before .before .before .before .before .before .before .before .before .before .before .before .before .args .source) (c .before .before .before .before .before .before .before .before .before .before .before .before .before .before .before .before .before .loop .at)) (c .before .before .before .before .before .before .before .before .before .read-choice .ensures (lent (c .before .before .before .before .before .before .before .before .before .before .before .before .before .before .before .before .before .before .before .before .before .before .before .before .before .args .n) [] [] [] [] [] []) (suc (left (now (c .before .before .before .before .before .before .before .before .before .before .before .before .before .before .before .before .before .before .before .before .before .before .before .before .before .args .bundle)) (c .before .before .before .before .before .before .before .before .before .before .before .before .before .before .before .before .before .before .before .before .before .before .before .before .before .args .source) (c .before .before .before .before .before .before .before .before .before .before .before .before .before .before .before .before .before .loop .at))) y (λ σ. readBody (reading (now (c .before .before .before .before .before .before .before .before .before .before .before .before .before .before .before .before .before .before .before .before .before .before .before .before .before .args .bundle))) (suc (left (now (c .before .before .before .before .before .before .before .before .before .before .before .before .before .before .before .before .before .before .before .before .before .before .before .before .before .args .bundle)) (c .before .before .before .before .before .before .before .before .before .before .before .before .before .before .before .before .before .before .before .before .before .before .before .before .before .args .source) (c .before .before .before .before .before .before .before .before .before .before .before .before .before .before .before .before .before .loop .at))) (colorsOf (now (c .before .before .before .before .before .before .before .before .before .before .before .before .before .before .before .before .before .before .before .before .before .before .before .before .before .args .bundle)) (now (c .before .before .before .before .before .before .before .before .before .before .before .before .before .before .before .before .before .before .before .before .before .before .before .before .before .args .colors)) (c .before .before .before .before .before .before .before .before .before .before .before .before .before .before .before .before .before .before .before .before .before .before .before .before .before .args .n .colors)) (σ ∷ [])) (ruleNext (now (c .before .before .before .before .before .before .before .before .before .before .before .before .before .before .before .before .before .before .before .before .before .before .before .before .before .args .bundle)) (suc (left (now (c .before .before .before .before .before .before .before .before .before .before .before .before .before .before .before .before .before .before .before .before .before .before .before .before .before .args .bundle)) (c .before .before .before .before .before .before .before .before .before .before .before .before .before .before .before .before .before .before .before .before .before .before .before .before .before .args .source) (c .before .before .before .before .before .before .before .before .before .before .before .before .before .before .before .before .before .loop .at))) (colorsOf (now (c .before .before .before .before .before .before .before .before .before .before .before .before .before .before .before .before .before .before .before .before .before .before .before .before .before .args .bundle)) (now (c .before .before .before .before .before .before .before .before .before .before .before .before .before .before .before .before .before .before .before .before .before .before .before .before .before .args .colors)) (c .before .before .before .before .before .before .before .before .before .before .before .before .before .before .before .before .before .before .before .before .before .before .before .before .before .args .n .colors))) p (omega arith)) (c .before .u .given .1) (λ σ m. m))) (λ k l t r q. start-object (Reads _ _ _ _ _) (rule-starts (now (c .before .before .before .before .before .before .before .before .before .before .before .before .before .before .before .before .before .before .before .before .before .before .before .before .before .args .bundle)) (suc k) (colorsOf (now (c .before .before .before .before .before .before .before .before .before .before .before .before .before .before .before .before .before .before .before .before .before .before .before .before .before .args .bundle)) (now (c .before .before .before .before .before .before .before .before .before .before .before .before .before .before .before .before .before .before .before .before .before .before .before .before .before .args .colors)) (c .before .before .before .before .before .before .before .before .before .before .before .before .before .before .before .before .before .before .before .before .before .before .before .before .before .args .n .colors)) (lent (c .before .before .before .before .before .before .before .before .before .before .before .before .before .before .before .before .before .loop .k) (c .before .before .before .before .before .before .before .before .before .before .before .before .before .before .before .before .before .loop .rules) (c .before .before .before .before .before .before .before .before .before .before .before .before .before .before .before .before .before .loop .selectors) (c .before .before .before .before .before .before .before .before .before .before .before .before .before .before .before .before .before .loop .tests) (c .before .before .before .before .before .before .before .before .before .before .before .before .before .before .before .before .before .loop .properties) (c .before .before .before .before .before .before .before .before .before .before .before .before .before .before .before .before .before .loop .numbers) (now (c .before .before .before .before .before .before .before .before .before .before .before .before .before .before .before .before .before .before .before .before .before .before .before .before .before .args .colors))) (tokenOf (now (c .before .before .before .before .before .before .before .before .before .before .before .before .before .before .before .before .before .before .before .before .before .before .before .before .before .args .bundle)) (c .before .before .before .before .before .before .before .before .before .before .before .before .before .before .before .before .before .loop .first)) (c .before .before .before .before .before .before .before .before .before .before .before .before .before .before .before .before .before .loop .begins) (spot (c .before .before .before .before .before .before .before .before .before .before .before .before .before .before .before .before .before .before .before .before .before .before .before .before .before .args .source) (c .before .before .before .before .before .before .before .before .before .before .before .before .before .before .before .before .before .loop .at)) (c .before .before .before .before .before .before .before .before .before .before .before .before .before .before .before .before .rule-start .ensures (lent (c .before .before .before .before .before .before .before .before .before .before .before .before .before .before .before .before .before .loop .k) (c .before .before .before .before .before .before .before .before .before .before .before .before .before .before .before .before .before .loop .rules) (c .before .before .before .before .before .before .before .before .before .before .before .before .before .before .before .before .before .loop .selectors) (c .before .before .before .before .before .before .before .before .before .before .before .before .before .before .before .before .before .loop .tests) (c .before .before .before .before .before .before .before .before .before .before .before .before .before .before .before .before .before .loop .properties) (c .before .before .before .before .before .before .before .before .before .before .before .before .before .before .before .before .before .loop .numbers) (now (c .before .before .before .before .before .before .before .before .before .before .before .before .before .before .before .before .before .before .before .before .before .before .before .before .before .args .colors))) (readBody (reading (now (c .before .before .before .before .before .before .before .before .before .before .before .before .before .before .before .before .before .before .before .before .before .before .before .before .before .args .bundle))) (suc k) (colorsOf (now (c .before .before .before .before .before .before .before .before .before .before .before .before .before .before .before .before .before .before .before .before .before .before .before .before .before .args .bundle)) (now (c .before .before .before .before .before .before .before .before .before .before .before .before .before .before .before .before .before .before .before .before .before .before .before .before .before .args .colors)) (c .before .before .before .before .before .before .before .before .before .before .before .before .before .before .before .before .before .before .before .before .before .before .before .before .before .args .n .colors)) [] (spot (c .before .before .before .before .before .before .before .before .before .before .before .before .before .before .before .before .before .before .before .before .before .before .before .before .before .args .source) (c .before .before .before .before .before .before .before .before .before .before .before .before .before .before .before .before .before .loop .at)) (lent (c .before .before .before .before .before .before .before .before .before .before .before .before .before .before .before .before .before .loop .k) (c .before .before .before .before .before .before .before .before .before .before .before .before .before .before .before .before .before .loop .rules) (c .before .before .before .before .before .before .before .before .before .before .before .before .before .before .before .before .before .loop .selectors) (c .before .before .before .before .before .before .before .before .before .before .before .before .before .before .before .before .before .loop .tests) (c .before .before .before .before .before .before .before .before .before .before .before .before .before .before .before .before .before .loop .properties) (c .before .before .before .before .before .before .before .before .before .before .before .before .before .before .before .before .before .loop .numbers) (now (c .before .before .before .before .before .before .before .before .before .before .before .before .before .before .before .before .before .before .before .before .before .before .before .before .before .args .colors)))) (readBlock (reading (now (c .before .before .before .before .before .before .before .before .before .before .before .before .before .before .before .before .before .before .before .before .before .before .before .before .before .args .bundle))) (suc k) (spot (c .before .before .before .before .before .before .before .before .before .before .before .before .before .before .before .before .before .before .before .before .before .before .before .before .before .args .source) (c .before .before .before .before .before .before .before .before .before .before .before .before .before .before .before .before .before .loop .at)) (lent (c .before .before .before .before .before .before .before .before .before .before .before .before .before .before .before .before .before .loop .k) (c .before .before .before .before .before .before .before .before .before .before .before .before .before .before .before .before .before .loop .rules) (c .before .before .before .before .before .before .before .before .before .before .before .before .before .before .before .before .before .loop .selectors) (c .before .before .before .before .before .before .before .before .before .before .before .before .before .before .before .before .before .loop .tests) (c .before .before .before .before .before .before .before .before .before .before .before .before .before .before .before .before .before .loop .properties) (c .before .before .before .before .before .before .before .before .before .before .before .before .before .before .before .before .before .loop .numbers) (now (c .before .before .before .before .before .before .before .before .before .before .before .before .before .before .before .before .before .before .before .before .before .before .before .before .before .args .colors)))) (ruleObject (now (c .before .before .before .before .before .before .before .before .before .before .before .before .before .before .before .before .before .before .before .before .before .before .before .before .before .args .bundle)) (suc k) (colorsOf (now (c .before .before .before .before .before .before .before .before .before .before .before .before .before .before .before .before .before .before .before .before .before .before .before .before .before .args .bundle)) (now (c .before .before .before .before .before .before .before .before .before .before .before .before .before .before .before .before .before .before .before .before .before .before .before .before .before .args .colors)) (c .before .before .before .before .before .before .before .before .before .before .before .before .before .before .before .before .before .before .before .before .before .before .before .before .before .args .n .colors)) (spot (c .before .before .before .before .before .before .before .before .before .before .before .before .before .before .before .before .before .before .before .before .before .before .before .before .before .args .source) (c .before .before .before .before .before .before .before .before .before .before .before .before .before .before .before .before .before .loop .at)) (lent (c .before .before .before .before .before .before .before .before .before .before .before .before .before .before .before .before .before .loop .k) (c .before .before .before .before .before .before .before .before .before .before .before .before .before .before .before .before .before .loop .rules) (c .before .before .before .before .before .before .before .before .before .before .before .before .before .before .before .before .before .loop .selectors) (c .before .before .before .before .before .before .before .before .before .before .before .before .before .before .before .before .before .loop .tests) (c .before .before .before .before .before .before .before .before .before .before .before .before .before .before .before .before .before .loop .properties) (c .before .before .before .before .before .before .before .before .before .before .before .before .before .before .before .before .before .loop .numbers) (now (c .before .before .before .before .before .before .before .before .before .before .before .before .before .before .before .before .before .before .before .before .before .before .before .before .before .args .colors)))) (ruleChosen (now (c .before .before .before .before .before .before .before .before .before .before .before .before .before .before .before .before .before .before .before .before .before .before .before .before .before .args .bundle)) (suc k) (colorsOf (now (c .before .before .before .before .before .before .before .before .before .before .before .before .before .before .before .before .before .before .before .before .before .before .before .before .before .args .bundle)) (now (c .before .before .before .before .before .before .before .before .before .before .before .before .before .before .before .before .before .before .before .before .before .before .before .before .before .args .colors)) (c .before .before .before .before .before .before .before .before .before .before .before .before .before .before .before .before .before .before .before .before .before .before .before .before .before .args .n .colors))))) (c .before .before .before .before .before .before .before .before .before .before .before .before .before .before .kind .given .1) (λ y p. choice-next (Reads _ _ _ _ _) (c .before .before .before .before .before .before .before .before .before .read-choice .ensures (lent (c .before .before .before .before .before .before .before .before .before .before .before .before .before .before .before .before .before .loop .k) (c .before .before .before .before .before .before .before .before .before .before .before .before .before .before .before .before .before .loop .rules) (c .before .before .before .before .before .before .before .before .before .before .before .before .before .before .before .before .before .loop .selectors) (c .before .before .before .before .before .before .before .before .before .before .before .before .before .before .before .before .before .loop .tests) (c .before .before .before .before .before .before .before .before .before .before .before .before .before .before .before .before .before .loop .properties) (c .before .before .before .before .before .before .before .before .before .before .before .before .before .before .before .before .before .loop .numbers) (now (c .before .before .before .before .before .before .before .before .before .before .before .before .before .before .before .before .before .before .before .before .before .before .before .before .before .args .colors))) (suc k) y (λ σ. readBody (reading (now (c .before .before .before .before .before .before .before .before .before .before .before .before .before .before .before .before .before .before .before .before .before .before .before .before .before .args .bundle))) (suc k) (colorsOf (now (c .before .before .before .before .before .before .before .before .before .before .before .before .before .before .before .before .before .before .before .before .before .before .before .before .before .args .bundle)) (now (c .before .before .before .before .before .before .before .before .before .before .before .before .before .before .before .before .before .before .before .before .before .before .before .before .before .args .colors)) (c .before .before .before .before .before .before .before .before .before .before .before .before .before .before .before .before .before .before .before .before .before .before .before .before .before .args .n .colors)) (σ ∷ [])) (ruleNext (now (c .before .before .before .before .before .before .before .before .before .before .before .before .before .before .before .before .before .before .before .before .before .before .before .before .before .args .bundle)) (suc k) (colorsOf (now (c .before .before .before .before .before .before .before .before .before .before .before .before .before .before .before .before .before .before .before .before .before .before .before .before .before .args .bundle)) (now (c .before .before .before .before .before .before .before .before .before .before .before .before .before .before .before .before .before .before .before .before .before .before .before .before .before .args .colors)) (c .before .before .before .before .before .before .before .before .before .before .before .before .before .before .before .before .before .before .before .before .before .before .before .before .before .args .n .colors))) p (omega arith)) (c .before .u .given .1) (λ σ m. widen (omega arith) (after-reads _ _ q)))), (c .before .before .before .before .before .before .before .before .before .before .before .before .before .before .before .before .before .loop .inv .1 .0, (omega (arith, c .before .before .before .before .before .before .before .before .before .read-choice .kept .1 .1 .1 .1 .1 .0, c .before .before .before .before .before .before .before .before .before .before .before .before .before .before .before .before .before .loop .inv .1 .1 .0), (omega (arith, c .before .before .before .before .before .before .before .before .before .read-choice .kept .1 .1 .1 .1 .1 .1 .0, c .before .before .before .before .before .before .before .before .before .before .before .before .before .before .before .before .before .loop .inv .1 .1 .1 .0), (c .before .before .before .before .before .before .before .before .before .before .before .before .before .before .before .before .before .loop .inv .1 .1 .1 .1 .0, omega (arith, c .before .before .before .before .before .before .before .before .before .read-choice .kept .1 .1 .1 .1 .1 .1 .1 .0, c .before .before .before .before .before .before .before .before .before .before .before .before .before .before .before .before .before .loop .inv .1 .1 .1 .1 .1))))))
 
 pub read-rule-spec : {M : Type 1} → statement M
 read-rule-spec =
