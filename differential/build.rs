@@ -43,7 +43,9 @@ fn main() {
     if env::var("CARGO_FEATURE_RATTLE").is_ok() {
         let library = here.join("../target/staticlib");
         println!("cargo:rustc-link-search=native={}", library.display());
-        println!("cargo:rerun-if-changed={}", library.join("libcapi.a").display());
+        for name in ["libcapi_token.a", "libcapi.a"] {
+            println!("cargo:rerun-if-changed={}", library.join(name).display());
+        }
     }
 }
 

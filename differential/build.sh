@@ -1,6 +1,6 @@
 # Sourced by run, sample and bench. Installs what the harness needs and builds it; `harness` is then its path.
 # ORIGINAL: the directory that holds the original's src/ (default: ../shared/docs/src beside the repository).
-# ALONE=1: without our static library, so that nothing is compared.
+# ALONE=1: without our static libraries, so that nothing is compared.
 set -euo pipefail
 here=$(cd "$(dirname "${BASH_SOURCE[0]}")" && pwd)
 top=$(dirname "$here")
@@ -20,7 +20,7 @@ features=()
 if [[ -n ${ALONE:-} ]]; then
     features=(--no-default-features)
 else
-    (cd "$top" && rt staticlib capi) >&2
+    (cd "$top" && rt staticlib capi_token && rt staticlib capi) >&2
 fi
 # cargo finds .cargo/config.toml by its working directory
 (cd "$here" && cargo build --release --quiet "${features[@]}") >&2

@@ -1,10 +1,10 @@
-//! The exports of crate capi, one safe wrapper for each. Nothing checks these declarations
-//! against the Rattle source; its codes stand at the top of crates/capi/src/lib.rt.
+//! The exports of crates capi_token and capi, one safe wrapper for each. Nothing checks these declarations
+//! against the Rattle source; the codes stand at the top of each crate's src/lib.rt.
 
 use crate::loads::{stride, Filled, Lent, Tables, NUMBERS};
 use crate::tokens::{bits, Cursor, Payload, Step, END, ERROR, KINDS};
 
-#[link(name = "capi", kind = "static")]
+#[link(name = "capi_token", kind = "static")]
 extern "C" {
     fn mapcss_next_token(
         s: *const u8,
@@ -18,7 +18,10 @@ extern "C" {
         number: *mut f64,
         number_len: usize,
     ) -> u64;
+}
 
+#[link(name = "capi", kind = "static")]
+extern "C" {
     fn mapcss_load(
         bundle: *const u8,
         bundle_len: usize,

@@ -16,7 +16,7 @@ const WHOLE: f64 = 9_007_199_254_740_991.0;
 /// More tokens than this in one load are a mistake in the cases.
 const MOST_TOKENS: u64 = 50_000_000;
 
-// kinds of tokens, as crate capi numbers them
+// kinds of tokens, as crate capi_token numbers them
 const IMPORT: u8 = 2;
 const IDENTIFIER: u8 = 3;
 const STRING: u8 = 4;

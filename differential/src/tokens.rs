@@ -6,7 +6,7 @@ pub const END: u8 = 0;
 pub const ERROR: u8 = 1;
 pub const REASONS: usize = 12;
 
-/// What each code of crate capi stands for: end, error, then Token's variants in their order.
+/// What each code of crate capi_token stands for: end, error, then Token's variants in their order.
 pub const KINDS: [&str; 28] = [
     "end", "error", "Import", "Identifier", "String", "Number", "ZoomRange", "ColorRef", "Color", "LeftParen",
     "RightParen", "LeftBracket", "RightBracket", "LeftBrace", "RightBrace", "Equal", "NotEqual", "Less", "Greater",

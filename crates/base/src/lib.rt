@@ -43,6 +43,15 @@ pub fn set_word(t: &mut [u32], at: usize, v: u32)
     }
 }
 
+// Stores a word of 64 bits, and nothing past the end.
+pub fn set_long(t: &mut [u64], spot: usize, w: u64)
+    ensures { λ _. ⌜ now (t .exit) ≡ set (now (t .entry)) spot w ⌝ }
+{
+    if spot < t.len() {
+        t[spot] = w;
+    }
+}
+
 // Stores a number, and nothing past the end.
 pub fn set_float(t: &mut [f64], place: usize, x: f64)
     ensures { λ _. ⌜ now (t .exit) ≡ set (now (t .entry)) place x ⌝ }

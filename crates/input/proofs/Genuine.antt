@@ -10,15 +10,15 @@ use Rattle.base.specs.Refusal.{refusal}
 use Rattle.base.specs.declared.Range.{Range}
 use Rattle.color.specs.declared.Color.{Color as Rgb}
 use Rattle.cursor.specs.declared.Cursor.{Cursor}
-use Rattle.token.specs.Claims.{Between, Inside}
+use Rattle.token_laws.specs.Claims.{Between, Inside}
 use Rattle.token.specs.Elim.{on-Step}
 use Rattle.token.specs.Step.{stepOf}
 use Rattle.token.specs.declared.Step.{Step}
 use Rattle.token.specs.declared.Step.the-variants.{Wrong, End, Took}
 use Rattle.token.specs.declared.Token.{Token}
 use Rattle.token.specs.declared.Token.the-variants.{Color}
-use Rattle.token.proofs.Consuming.{steps-consume}
-use Rattle.token.proofs.Shades.{colors-small}
+use Rattle.token_laws.proofs.Consuming.{steps-consume}
+use Rattle.token_laws.proofs.Shades.{colors-small}
 use Rattle.grammar.specs.Alike.{NamesGenuine, ColorsSmall, TokensGenuine}
 use Rattle.grammar.specs.Input.{broken, end, token, Store}
 use Rattle.grammar.specs.Token.{Name as Name′, Token as Token′, import, identifier, string, colorRef, number, zoomRange, color, sign}

@@ -6,8 +6,8 @@ use lib.ListN.{length, length-drop, length-take}
 use Rattle.base.specs.Bytes.{Bytes, within}
 use Rattle.base.specs.declared.Range.{Range}
 use Rattle.cursor.specs.declared.Cursor.{Cursor}
-use Rattle.token.proofs.Consuming.{steps-consume}
-use Rattle.token.specs.Claims.{Between}
+use Rattle.token_laws.proofs.Consuming.{steps-consume}
+use Rattle.token_laws.specs.Claims.{Between}
 use Rattle.token.specs.Step.{stepOf}
 use Rattle.token.specs.declared.Step.the-variants.{Took}
 use Rattle.token.specs.declared.Token.{Token}

@@ -11,7 +11,7 @@ use Rattle.base.specs.Refusal.{refusal}
 use Rattle.base.specs.declared.Range.{Range}
 use Rattle.base.specs.declared.refusal.Refusal.{Refusal}
 use Rattle.cursor.specs.declared.Cursor.{Cursor}
-use Rattle.token.specs.Claims.{Inside}
+use Rattle.token_laws.specs.Claims.{Inside}
 use Rattle.token.specs.Elim.{on-Step}
 use Rattle.token.specs.Step.{stepOf}
 use Rattle.token.specs.declared.Step.{Step}

@@ -109,7 +109,7 @@ fn read_digits_operand(
     match expect_right_bracket(bundle, source, c) {
         Past::Another(e) => Kept::Refused(e),
         Past::Beyond(d) => {
-            if reader::is_whole(x) {
+            if tag_number::is_whole(x) {
                 return store_number_test(source, d, n, kind, key, x, tests, numbers);
             }
             Kept::Refused(refuse_reached(NOT_WHOLE, 0, source, d))

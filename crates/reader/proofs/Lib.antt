@@ -1,9 +1,1 @@
-pub mod Texts
-pub mod Scaled
-pub mod Saturate
-pub mod Layers
-pub mod Decimals
-pub mod Wholes
-pub mod Written
-pub mod Back
 pub mod Lookup

@@ -1,5 +1,3 @@
 pub mod Elim
-pub mod Told
 pub mod Tags
-pub mod Grown
 pub mod Examples

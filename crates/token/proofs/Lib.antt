@@ -1,7 +1,2 @@
 pub mod Pairs
 pub mod Digits
-pub mod Colors
-pub mod Consuming
-pub mod Shades
-pub mod Enough
-pub mod Works

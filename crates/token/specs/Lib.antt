@@ -4,6 +4,3 @@ pub mod Signs
 pub mod Zoom
 pub mod Read
 pub mod Step
-pub mod Claims
-pub mod Tokens
-pub mod Worked

@@ -3,7 +3,7 @@
 ghost use mathlib.Core.Path.{_≡_};
 ghost use Prim.Native.Nat.{_+_, _≤_, _<_};
 ghost use lib.ListN.{length};
-use capi::mapcss_next_token;
+use capi_token::mapcss_next_token;
 use libc::STDIN_FILENO;
 use libc::STDOUT_FILENO;
 

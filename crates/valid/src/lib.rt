@@ -287,7 +287,7 @@ fn number_value(t: &[u32], xs: &[f64], i: usize, kind: usize, numbers: usize) ->
         return false;
     }
     if kind <= 8 {
-        return reader::is_whole(base::float_at(xs, place));
+        return tag_number::is_whole(base::float_at(xs, place));
     }
     true
 }

@@ -1,3 +1,4 @@
+-- `capi::mapcss_load` meets its contract.
 use Rattle.capi.proofs.Words.{load-told}
 use borrow.Author.Needs.{needs}
 use Rattle.capi.proofs.mapcss_load.Statement.{statement}
@@ -8,47 +9,36 @@ use Rattle.capi.proofs.store_six.Reads as store-six-reads
 use Rattle.capi.proofs.told_load.Reads as told-load-reads
 use Rattle.parser.proofs.load.Reads as load-reads
 
--- src/lib.rt:274:25
 load-requires : tie.Need-load-requires
 load-requires c κs = search needs
 
--- src/lib.rt:274:9
 told-load-requires : tie.Need-told-load-requires
 told-load-requires c κs = search needs
 
--- src/lib.rt:275:5
 store-six-requires : tie.Need-store-six-requires
 store-six-requires c κs = search needs
 
--- src/lib.rt:261:1
 same-length : tie.Need-same-length
 same-length c = search needs
 
--- src/lib.rt:261:1
 same-length-2 : tie.Need-same-length-2
 same-length-2 c = search needs
 
--- src/lib.rt:261:1
 same-length-3 : tie.Need-same-length-3
 same-length-3 c = search needs
 
--- src/lib.rt:261:1
 same-length-4 : tie.Need-same-length-4
 same-length-4 c = search needs
 
--- src/lib.rt:261:1
 same-length-5 : tie.Need-same-length-5
 same-length-5 c = search needs
 
--- src/lib.rt:261:1
 same-length-6 : tie.Need-same-length-6
 same-length-6 c = search needs
 
--- src/lib.rt:261:1
 same-length-7 : tie.Need-same-length-7
 same-length-7 c = search needs
 
--- src/lib.rt:261:1
 returns : tie.Need-returns
 returns c = load-told (c .before .before .before .before .before .before .before .before .before .before .before .before .before .before .before .before .before .load .ensures) (c .before .before .before .before .told-load .ensures) (c .before .before .store-six .ensures)
 

@@ -1,3 +1,4 @@
+-- `capi::told_load` meets its contract.
 use Rattle.capi.specs.Load.{toldLoad}
 use mathlib.Core.Path.{sym, ap}
 use borrow.Author.Needs.{needs}
@@ -6,20 +7,16 @@ use Rattle.capi.proofs.told_load.Tie as tie
 use Rattle.capi.proofs.told_load.Reads as reads
 use Rattle.capi.proofs.told_load.Lts as lts
 
--- src/lib.rt:283:27
 enum-known-loaded : tie.Need-enum-known-loaded
 enum-known-loaded c = search needs
 
--- src/lib.rt:292:23
 enum-known-loaded-2 : tie.Need-enum-known-loaded-2
 enum-known-loaded-2 c = search needs
 
--- src/lib.rt:279:1
 returns : tie.Need-returns
 unfolding toldLoad
 returns c = sym (ap toldLoad (c .before .loaded .given .1))
 
--- src/lib.rt:279:1
 returns-2 : tie.Need-returns-2
 unfolding toldLoad
 returns-2 c = sym (ap toldLoad (c .before .loaded2 .given .1))

@@ -1,0 +1,3 @@
+pub mod Elim
+pub mod Told
+pub mod Grown
