@@ -1,0 +1,10 @@
+pub mod Characters
+pub mod Letters
+pub mod SoundWords
+pub mod SoundZoom
+pub mod SoundNumbers
+pub mod Soundness
+pub mod CompleteWords
+pub mod CompleteNumbers
+pub mod CompleteZoom
+pub mod Completeness

@@ -1,0 +1,1 @@
+// The lexical grammar: specs/ states which characters are which token, proofs/ that exactly those are read.
