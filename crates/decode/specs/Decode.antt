@@ -67,12 +67,25 @@ module _ (bundle : Bytes) where
   unfoldable pub layerAt : List ℕ → ℕ → Option Bytes
   layerAt t i = pick (eqb (wordAt t i 5) 1) (some (within (rangeAt t i 6) bundle)) none
 
+  -- a selector, with the tables of selectors, tests and numbers
+  abbrev pub selectorIn : List ℕ → List ℕ → List Float → ℕ → Selector
+  selectorIn t ts xs i =
+      record
+      { objectType = typeAt (wordAt t i 0); minZoom = levelAt (wordAt t i 1); maxZoom = levelAt (wordAt t i 2); tests = map (testAt ts xs) (placesIn (rangeAt t i 3)); layerId = layerAt t i }
+
+  -- a property's name
+  abbrev pub nameAt : List ℕ → ℕ → Bytes
+  nameAt t i = within (rangeAt t i 1) bundle
+
+  -- a rule whose properties are their numbers
+  abbrev pub numberedAt : List ℕ → List ℕ → List ℕ → List ℕ → List Float → ℕ → Rule ℕ
+  numberedAt rs ss ts ps xs i =
+      record
+      { selectors = map (selectorIn ss ts xs) (placesIn (rangeAt rs i 1)); properties = map (λ p. entry (nameAt ps p) p) (placesIn (rangeAt rs i 3)) }
+
   module _ (τ : Lent) where
     abbrev pub selectorAt : ℕ → Selector
-    selectorAt i =
-        let t = τ .selectors in
-        record
-        { objectType = typeAt (wordAt t i 0); minZoom = levelAt (wordAt t i 1); maxZoom = levelAt (wordAt t i 2); tests = map (testAt (τ .tests) (τ .numbers)) (placesIn (rangeAt t i 3)); layerId = layerAt t i }
+    selectorAt = selectorIn (τ .selectors) (τ .tests) (τ .numbers)
 
     abbrev pub valueOf : PropertyValue → Value
     valueOf NoValue = identifier []
@@ -84,7 +97,7 @@ module _ (bundle : Bytes) where
     valueOf (WidthDelta x) = widthDelta x
 
     abbrev pub propertyAt : ℕ → Entry Value
-    propertyAt i = entry (within (rangeAt (τ .properties) i 1) bundle) (valueOf (valueAt (τ .properties) (τ .numbers) i))
+    propertyAt i = entry (nameAt (τ .properties) i) (valueOf (valueAt (τ .properties) (τ .numbers) i))
 
     abbrev pub ruleAt : ℕ → Rule Value
     ruleAt i =
