@@ -1,0 +1,4 @@
+pub mod Book
+pub mod Encode
+pub mod Meaning
+pub mod Held

@@ -1,0 +1,232 @@
+// The walk of one entity through a sheet: its property maps, over lent tables and any bytes.
+ghost use mathlib.Core.Path.{_≡_};
+ghost use Prim.Native.Nat.{_≤_, _<_, _-_};
+ghost use lib.ListN.{length};
+ghost use Rattle.decode.specs.Decode.{nameAt, places};
+ghost use Rattle.walk.specs.Maps.{finish, mapsOf};
+ghost use Rattle.walk.specs.Run.{told, bounded, hitOf, ruleOf, rulesOf};
+ghost use Rattle.walk.specs.Selectors.{layerIn, verdictIn};
+use base::refusal::Refusal;
+use base::refusal::TABLE_BROKEN;
+use base::refusal::TAG_NUMBER;
+use base::word_at;
+use base::zero_words;
+use entity::EntityRange;
+use entity::SingleEntity;
+use entity::single_entity;
+use matching::Fit;
+use matching::matches;
+use valid::Counts;
+use valid::is_sound;
+
+mod layers;
+mod rows;
+
+// A refusal's number, or the count of layers.
+pub enum Stepped {
+    Refused(usize),
+    Now(usize),
+}
+
+// The refusal, or how many layers there are.
+pub enum PropertyMaps {
+    NoMaps(Refusal),
+    Maps(usize),
+}
+
+// The property maps of an entity: how many layers there are, and the table of them, or why not, and a table of zeros.
+pub fn property_maps(
+    bundle: &[u8],
+    rules: &[u32],
+    selectors: &[u32],
+    tests: &[u32],
+    properties: &[u32],
+    numbers: &[f64],
+    n: Counts,
+    zoom: u8,
+    entity: &[u8],
+    maps: &mut [u32; 4323],
+) -> PropertyMaps
+    ensures { λ r. ⌜ (r, now (maps .exit)) ≡ mapsOf (now (bundle .entry)) (now (rules .entry)) (now (selectors .entry)) (now (tests .entry)) (now (properties .entry)) (now (numbers .entry)) n zoom (now (entity .entry)) ⌝ }
+{
+    zero_words(&mut maps[..]);
+    if !is_sound(
+        rules,
+        selectors,
+        tests,
+        properties,
+        numbers,
+        n,
+        bundle.len(),
+    ) {
+        return PropertyMaps::NoMaps(Refusal::plain(TABLE_BROKEN));
+    }
+    match single_entity(entity) {
+        SingleEntity::BadEntity(r) => PropertyMaps::NoMaps(r),
+        SingleEntity::OneEntity(e) => {
+            let q = walk_rules(
+                bundle,
+                rules,
+                selectors,
+                tests,
+                properties,
+                numbers,
+                n.rules,
+                zoom,
+                entity,
+                e,
+                &mut maps[..],
+            );
+            finish_maps(q, &mut maps[..])
+        }
+    }
+}
+
+// What the end of a walk answers: a refusal leaves a table of zeros.
+fn finish_maps(q: Stepped, t: &mut [u32]) -> PropertyMaps
+    requires { ⌜ length (now t) ≡ 4323 ⌝ }
+    ensures { λ r. ⌜ (r, now (t .exit)) ≡ finish (told q (now (t .entry))) ⌝ }
+{
+    match q {
+        Stepped::Refused(k) => {
+            zero_words(t);
+            PropertyMaps::NoMaps(Refusal::of_entity(k, false, 0))
+        }
+        Stepped::Now(m) => PropertyMaps::Maps(m),
+    }
+}
+
+// The first `total` rules, in order.
+fn walk_rules(
+    bundle: &[u8],
+    rules: &[u32],
+    selectors: &[u32],
+    tests: &[u32],
+    properties: &[u32],
+    numbers: &[f64],
+    total: usize,
+    zoom: u8,
+    entity: &[u8],
+    e: EntityRange,
+    t: &mut [u32],
+) -> Stepped
+    requires { ⌜ (total ≤ 16384) × (length (now t) ≡ 4323) ⌝ }
+    ensures { λ q. ⌜ told q (now (t .exit)) ≡ rulesOf (nameAt (now (bundle .entry)) (now (properties .entry))) (layerIn (now (bundle .entry)) (now (selectors .entry))) (verdictIn (now (bundle .entry)) (now (selectors .entry)) (now (tests .entry)) (now (numbers .entry)) zoom (now (entity .entry)) e) (now (rules .entry)) (now (t .entry)) 0 0 total ⌝ }
+{
+    let mut r = 0;
+    let mut m = 0;
+    while r < total {
+        match walk_rule(
+            bundle,
+            rules,
+            selectors,
+            tests,
+            properties,
+            numbers,
+            zoom,
+            entity,
+            e,
+            t,
+            m,
+            r,
+        ) {
+            Stepped::Refused(k) => {
+                return Stepped::Refused(k);
+            }
+            Stepped::Now(k) => {
+                m = k;
+                r += 1;
+            }
+        }
+    }
+    Stepped::Now(m)
+}
+
+// One rule: its selectors in order.
+fn walk_rule(
+    bundle: &[u8],
+    rules: &[u32],
+    selectors: &[u32],
+    tests: &[u32],
+    properties: &[u32],
+    numbers: &[f64],
+    zoom: u8,
+    entity: &[u8],
+    e: EntityRange,
+    t: &mut [u32],
+    n: usize,
+    r: usize,
+) -> Stepped
+    requires { ⌜ (n ≤ 32) × (r < 16384) × (length (now t) ≡ 4323) ⌝ }
+    ensures { λ q. ⌜ told q (now (t .exit)) ≡ ruleOf (nameAt (now (bundle .entry)) (now (properties .entry))) (layerIn (now (bundle .entry)) (now (selectors .entry))) (verdictIn (now (bundle .entry)) (now (selectors .entry)) (now (tests .entry)) (now (numbers .entry)) zoom (now (entity .entry)) e) (now (rules .entry)) (now (t .entry)) n r ⌝ }
+    ensures { λ q. ⌜ bounded q ⌝ }
+{
+    let at = r * 8;
+    let mut s = word_at(rules, at + 1);
+    let end = word_at(rules, at + 2);
+    let from = word_at(rules, at + 3);
+    let to = word_at(rules, at + 4);
+    let mut m = n;
+    while s < end {
+        match visit(
+            bundle,
+            selectors,
+            tests,
+            properties,
+            numbers,
+            zoom,
+            entity,
+            e,
+            t,
+            m,
+            s,
+            from,
+            to,
+        ) {
+            Stepped::Refused(k) => {
+                return Stepped::Refused(k);
+            }
+            Stepped::Now(k) => {
+                m = k;
+                s += 1;
+            }
+        }
+    }
+    Stepped::Now(m)
+}
+
+// One selector, with the properties from..to of its rule.
+fn visit(
+    bundle: &[u8],
+    selectors: &[u32],
+    tests: &[u32],
+    properties: &[u32],
+    numbers: &[f64],
+    zoom: u8,
+    entity: &[u8],
+    e: EntityRange,
+    t: &mut [u32],
+    n: usize,
+    s: u32,
+    from: u32,
+    to: u32,
+) -> Stepped
+    requires { ⌜ (n ≤ 32) × (length (now t) ≡ 4323) ⌝ }
+    ensures { λ r. ⌜ told r (now (t .exit)) ≡ hitOf (nameAt (now (bundle .entry)) (now (properties .entry))) (layerIn (now (bundle .entry)) (now (selectors .entry))) (verdictIn (now (bundle .entry)) (now (selectors .entry)) (now (tests .entry)) (now (numbers .entry)) zoom (now (entity .entry)) e) (now (t .entry)) n s (places from (to - from)) ⌝ }
+    ensures { λ r. ⌜ bounded r ⌝ }
+{
+    match matches(
+        bundle,
+        selectors,
+        tests,
+        numbers,
+        zoom,
+        entity,
+        e,
+        s as usize,
+    ) {
+        Fit::Out => Stepped::Refused(TAG_NUMBER),
+        Fit::Misses => Stepped::Now(n),
+        Fit::Fits => layers::step(bundle, selectors, properties, t, n, s, from, to),
+    }
+}
