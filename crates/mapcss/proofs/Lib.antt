@@ -1,1 +1,3 @@
+pub mod Sheets
 pub mod Loading
+pub mod Maps

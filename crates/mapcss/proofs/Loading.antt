@@ -32,7 +32,8 @@ use Rattle.sheet.specs.Sheet.{Rule, Value}
 use Rattle.sound.proofs.Drawn.{reading-lies}
 use Rattle.sound.proofs.Passing.{tables-pass}
 use Rattle.valid.specs.Valid.{tablesSound}
-use Rattle.mapcss.specs.Loads.{countsFor, tablesFor, spelledBy, fiveOf, Loads, Sound, Spelled, Complete, OneReading, RefusalZeroes, NeverBroken}
+use Rattle.mapcss.specs.Loads.{countsFor, tablesFor, spelledBy, fiveOf, Loads, Sound, Spelled, Complete, Exactly, OneReading, RefusalZeroes, NeverBroken}
+use Rattle.mapcss.proofs.Sheets.{reads-as, as-reads}
 
 read-loads :
     (bundle : Bytes) (l : Lengths) (n : Counts) (h : Held) (texts : ℕ)
@@ -54,7 +55,7 @@ read-loads bundle l n h texts c (read js f υ) q w =
       texts = texts;
       checked = c;
       js = js;
-      is-sheet = a .0;
+      is-sheet = reads-as bundle js (a .0);
       fits = a .1 .0;
       counted = sym v ∙ ap (λ (υ : Tables). countsOf (tallyOf υ)) u;
       tables = sym (ap (λ (x : Loaded × Held). x .1) w) ∙ ap (λ (υ : Tables). heldIn (lentOf l υ)) u;
@@ -77,12 +78,12 @@ sound bundle l n h e = go (checkOf bundle) refl e
 pub complete : Complete
 unfolding loadOf on-Checked loaded
 complete bundle l texts js c r b =
-    let a = accepts (reading bundle) (fueled bundle (lentStore bundle)) (capacities l) (sheetAt bundle) js r b in
+    let a = accepts (reading bundle) (fueled bundle (lentStore bundle)) (capacities l) (sheetAt bundle) js (as-reads bundle js r) b in
     ap (λ x. on-Checked x (λ e. (NotLoaded e, zeros l)) (λ count. loaded l (loadInto (reading bundle) (capacities l) (sheetAt bundle)))) c
     ∙ ap (loaded l) (a .1)
 
 pub one-reading-each : OneReading
-one-reading-each bundle js ks a b = one-reading (reading bundle) (fueled bundle (lentStore bundle)) (sheetAt bundle) js ks a b
+one-reading-each bundle js ks a b = one-reading (reading bundle) (fueled bundle (lentStore bundle)) (sheetAt bundle) js ks (as-reads bundle js a) (as-reads bundle ks b)
 
 refused-zero :
     (l : Lengths) (e : Refusal) (h : Held) (a : Answer Reading Spot Tables Refusal)
@@ -119,7 +120,7 @@ pub never-broken : NeverBroken
 never-broken bundle l n h e =
     let s = sound bundle l n h e in
     same-tables (length bundle) (s .counted) (s .tables)
-    (tables-pass (length bundle) (short-bundle bundle (s .checked)) l (s .js) (s .fits) (reading-lies bundle (lentStore bundle) (sheetAt bundle) (s .js) (s .is-sheet)))
+    (tables-pass (length bundle) (short-bundle bundle (s .checked)) l (s .js) (s .fits) (reading-lies bundle (lentStore bundle) (sheetAt bundle) (s .js) (as-reads bundle (s .js) (s .is-sheet))))
 
 -- ---- the rules
 
@@ -143,4 +144,13 @@ rules-spelled bundle l n h s =
     same-rules bundle (s .counted) (s .tables)
     (counted-rules bundle l (s .js)
     ∙ filled-spell bundle (short-bundle bundle (s .checked)) l (s .js) (s .fits)
-    (reading-drawn bundle (lentStore bundle) (sheetAt bundle) (s .js) (s .is-sheet)))
+    (reading-drawn bundle (lentStore bundle) (sheetAt bundle) (s .js) (as-reads bundle (s .js) (s .is-sheet))))
+
+pub exactly : Exactly
+exactly bundle l n h = (
+  sound bundle l n h,
+  λ s. (
+    complete bundle l (s .texts) (s .js) (s .checked) (s .is-sheet) (s .fits) ∙ sym (ap (λ n. (Sheet n, h)) (s .counted) ∙ ap (λ h. (Sheet (countsFor (s .js)), h)) (s .tables)),
+    rules-spelled bundle l n h s,
+  ),
+)

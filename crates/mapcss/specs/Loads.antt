@@ -8,15 +8,13 @@ use Rattle.base.specs.Bytes.{Bytes}
 use Rattle.base.specs.declared.refusal.Refusal.{Refusal}
 use Rattle.bundle.specs.Bundle.{checkOf}
 use Rattle.bundle.specs.declared.Checked.the-variants.{Texts}
-use Rattle.grammar.specs.Accepted.{Reads}
 use Rattle.grammar.specs.Capacity.{tablesOf, Bounded}
 use Rattle.grammar.specs.Reading.{Reading}
 use Rattle.grammar.specs.Rules.{rulesOfReading}
 use Rattle.input.specs.Encode.{Lengths, lengths, capacities, tallyOf, lentOf}
 use Rattle.input.specs.Lent.{lent}
-use Rattle.input.specs.Source.{reading}
 use Rattle.input.specs.declared.Tally.{Tally}
-use Rattle.parser.specs.Load.{Held, zeros, heldIn, countsOf, sheetAt, loadOf}
+use Rattle.parser.specs.Load.{Held, zeros, heldIn, countsOf, loadOf}
 use Rattle.parser.specs.declared.Counts.{Counts}
 use Rattle.parser.specs.declared.Loaded.the-variants.{NotLoaded, Sheet}
 use Rattle.decode.specs.Decode.{rulesAt}
@@ -24,10 +22,7 @@ use Rattle.sheet.specs.Digits.{digitsOf}
 use Rattle.sheet.specs.Sheet.{Rule, Value}
 use Rattle.valid.specs.Valid.{tablesSound}
 use Rattle.valid.specs.declared.Counts.{Counts as Counts′}
-
--- the sheet of a bundle, its text 0, is the grammar's, and js is its reading
-abbrev pub IsSheet : Bytes → Reading → Type 0
-IsSheet bundle js = Reads (reading bundle) (sheetAt bundle) js
+use Rattle.mapcss.specs.Sheets.{ReadsAs}
 
 -- what a reading leaves in tables of these lengths, and its counts
 abbrev pub countsFor : Reading → Counts
@@ -36,13 +31,13 @@ countsFor js = countsOf (tallyOf (tablesOf js))
 abbrev pub tablesFor : Lengths → Reading → Held
 tablesFor l js = heldIn (lentOf l (tablesOf js))
 
--- A load succeeds only if layout and UTF-8 of the bundle are sound and its sheet has a reading within the capacities; the tables
--- and the counts are then those of the reading ..
+-- A load succeeds only if layout and UTF-8 of the bundle are sound and its sheet, by its characters, has a reading within the
+-- capacities; the tables and the counts are then those of the reading ..
 pub record Loads (bundle : Bytes) (l : Lengths) (n : Counts) (h : Held) : Type 0 where
   pub texts : ℕ
   pub checked : checkOf bundle ≡ Texts texts
   pub js : Reading
-  pub is-sheet : IsSheet bundle js
+  pub is-sheet : ReadsAs bundle js
   pub fits : Bounded (capacities l) js
   pub counted : n ≡ countsFor js
   pub tables : h ≡ tablesFor l js
@@ -55,7 +50,7 @@ abbrev pub Complete : Type 0
 Complete =
     (bundle : Bytes) (l : Lengths) (texts : ℕ) (js : Reading)
     → checkOf bundle ≡ Texts texts
-    → IsSheet bundle js
+    → ReadsAs bundle js
     → Bounded (capacities l) js
     → loadOf bundle l ≡ (Sheet (countsFor js), tablesFor l js)
 
@@ -74,9 +69,17 @@ Spelled =
     (bundle : Bytes) (l : Lengths) (n : Counts) (h : Held) (s : Loads bundle l n h)
     → spelledBy bundle n h ≡ rulesOfReading digitsOf (s .js)
 
+-- All of it in one: a load succeeds with these counts and tables if and only if the sheet of the bundle has a reading that leaves
+-- them, and then they spell the rules of that reading.
+abbrev pub Exactly : Type 0
+Exactly =
+    (bundle : Bytes) (l : Lengths) (n : Counts) (h : Held)
+    → (loadOf bundle l ≡ (Sheet n, h) → Loads bundle l n h)
+    × ((s : Loads bundle l n h) → (loadOf bundle l ≡ (Sheet n, h)) × (spelledBy bundle n h ≡ rulesOfReading digitsOf (s .js)))
+
 -- Each bundle has one reading.
 abbrev pub OneReading : Type 0
-OneReading = (bundle : Bytes) (js ks : Reading) → IsSheet bundle js → IsSheet bundle ks → js ≡ ks
+OneReading = (bundle : Bytes) (js ks : Reading) → ReadsAs bundle js → ReadsAs bundle ks → js ≡ ks
 
 -- A refusal leaves every table zero to its end.
 abbrev pub RefusalZeroes : Type 0
