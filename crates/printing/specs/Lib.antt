@@ -1,0 +1,4 @@
+pub mod Elim
+pub mod Frame
+pub mod Lines
+pub mod Plate
