@@ -1,4 +1,5 @@
 pub mod Elim
 pub mod Frame
 pub mod Lines
+pub mod Put
 pub mod Plate
