@@ -6,7 +6,7 @@ use std::path::{Path, PathBuf};
 use std::{env, fs};
 
 const MAPCSS: [&str; 5] = ["color", "parser", "style_cache", "styler", "token"];
-const PROBED: [&str; 2] = ["parser", "token"];
+const PROBED: [&str; 4] = ["parser", "reader", "styler", "token"];
 
 fn main() {
     let here = PathBuf::from(env::var("CARGO_MANIFEST_DIR").unwrap());
@@ -43,7 +43,7 @@ fn main() {
     if env::var("CARGO_FEATURE_RATTLE").is_ok() {
         let library = here.join("../target/staticlib");
         println!("cargo:rustc-link-search=native={}", library.display());
-        for name in ["libcapi_token.a", "libcapi.a"] {
+        for name in ["libcapi_token.a", "libcapi.a", "libcapi_maps.a"] {
             println!("cargo:rerun-if-changed={}", library.join(name).display());
         }
     }

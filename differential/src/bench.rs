@@ -1,10 +1,17 @@
-//! Times both tokenizers, and the load beside the original's parser, on the same sheets in the same process.
+//! Times both tokenizers, the load beside the original's parser, and property maps, on the same sheets in the same process.
 
 use crate::bundles;
+use crate::entities::{self, Entity};
+use crate::geodata::reader::probe as reader;
+use crate::load_run::Files;
 use crate::loads::Lent;
+use crate::map_cases::random_entity;
+use crate::map_run::Sheet;
 use crate::mapcss::parser::probe;
 use crate::mapcss::token::Tokenizer;
+use crate::maps::Tally;
 use crate::model;
+use crate::random::Random;
 use crate::sheets;
 use crate::tokens::{self, Payload};
 use std::collections::{BTreeMap, BTreeSet};
@@ -39,6 +46,7 @@ pub fn bench() -> bool {
         println!("  ours     {:.1} MB/s, {:.2} times the original", speed(&ours), original.seconds / ours.seconds);
     }
     loads();
+    property_maps();
     true
 }
 
@@ -83,26 +91,11 @@ const MOST_TEXT: usize = bundles::MOST_BYTES - 7;
 /// A text of the sheets' rules, at least (the last size: at most) so long. A colour is defined before its first use, and
 /// no text is imported. A MiB of rules has more entries than a table takes: there, every other line is a remark.
 fn load_text(size: usize, remarked: bool) -> String {
-    let mut definitions = BTreeMap::new();
-    let mut rules = Vec::new();
-    for sheet in sheets::texts() {
-        for item in items(&sheet) {
-            match item.defines {
-                Some(name) => drop(definitions.entry(name).or_insert(item.text)),
-                None if !item.imports => rules.push(item),
-                None => {}
-            }
-        }
-    }
+    let (rules, definitions) = sheet_items();
     let mut text = String::new();
     let mut defined = BTreeSet::new();
     for rule in rules.iter().cycle() {
-        let mut part = String::new();
-        // a name that is used in a `colors` block alone has no definition
-        for definition in rule.uses.iter().filter(|name| defined.insert(*name)).filter_map(|name| definitions.get(name))
-        {
-            part += definition;
-        }
+        let mut part = defining(rule, &definitions, &mut defined);
         part += &rule.text;
         if remarked {
             let remark: String =
@@ -118,6 +111,116 @@ fn load_text(size: usize, remarked: bool) -> String {
         text += &part;
     }
     unreachable!()
+}
+
+/// The sheets' rules, and the first definition of each colour.
+fn sheet_items() -> (Vec<Item>, BTreeMap<String, String>) {
+    let mut definitions = BTreeMap::new();
+    let mut rules = Vec::new();
+    for sheet in sheets::texts() {
+        for item in items(&sheet) {
+            match item.defines {
+                Some(name) => drop(definitions.entry(name).or_insert(item.text)),
+                None if !item.imports => rules.push(item),
+                None => {}
+            }
+        }
+    }
+    (rules, definitions)
+}
+
+/// The definitions that a rule needs and the text has not yet.
+fn defining<'a>(rule: &'a Item, definitions: &BTreeMap<String, String>, defined: &mut BTreeSet<&'a str>) -> String {
+    let fresh = rule.uses.iter().filter(|name| defined.insert(name));
+    // a name that is used in a `colors` block alone has no definition
+    fresh.filter_map(|name| definitions.get(name)).map(String::as_str).collect()
+}
+
+/// A sheet of so many of the sheets' rules, taken from all of them.
+fn rules_text(count: usize) -> String {
+    let (rules, definitions) = sheet_items();
+    let mut text = String::new();
+    let mut defined = BTreeSet::new();
+    for k in 0..count {
+        let rule = &rules[k * rules.len() / count];
+        text += &defining(rule, &definitions, &mut defined);
+        text += &rule.text;
+    }
+    text
+}
+
+const ENTITIES: usize = 10_000;
+const MAP_ROUNDS: usize = 10;
+/// An entity seldom has more.
+const MOST_TAGS: usize = 20;
+
+/// A row for each sheet: entities a second. The original has its entities and its rules in memory and uses no cache; ours
+/// gets the bytes of an entity and checks them, and the tables, in each call.
+fn property_maps() {
+    println!("property maps of {ENTITIES} entities, best of {MAP_ROUNDS} rounds; ratio: original / ours");
+    println!(
+        "| rules | selectors | tags | layers | original entities/s | ours entities/s | ratio | ours, tables checked alone |"
+    );
+    println!("|---|---|---|---|---|---|---|---|");
+    for count in [20, 200, 800] {
+        let bundle = bundles::single(&rules_text(count));
+        let sheet = Sheet::load(&mut Files::new(), bundle).expect("a sheet for timing");
+        let numbered = sheet.original.as_ref().unwrap();
+        let r = &mut Random::new(1, 1);
+        let mut entities: Vec<(Entity, u8)> = Vec::new();
+        while entities.len() < ENTITIES {
+            let (entity, _) = random_entity(r, &sheet.load);
+            let zoom = r.between(8, 18) as u8;
+            let few = entity.tags.len() <= MOST_TAGS;
+            if few && sheet.expected(&entity, zoom, &mut Tally::default()).is_ok() {
+                entities.push((entity, zoom));
+            }
+        }
+        let all: Vec<Entity> = entities.iter().map(|(entity, _)| entity.clone()).collect();
+        let reader = reader::reader(&all);
+        let found: Vec<_> = reader::entities(&reader, &all).into_iter().zip(entities.iter().map(|e| e.1)).collect();
+        let bytes: Vec<_> = entities.iter().map(|(entity, zoom)| (entities::bytes(entity), *zoom)).collect();
+        let tags: usize = all.iter().map(|entity| entity.tags.len()).sum();
+        // refused with 7 as soon as the tables are found sound
+        let none = vec![(Vec::new(), 0); ENTITIES];
+        let (mut original, mut ours, mut tables) = (Best::new(), Best::new(), Best::new());
+        for _ in 0..MAP_ROUNDS {
+            tables.round(&none[..], |none| our_layers(&sheet, none, 7).unwrap_or(0));
+            original.round(&found[..], |found| found.iter().map(|(e, zoom)| numbered.count(e, *zoom)).sum::<usize>());
+            ours.round(&bytes[..], |bytes| our_layers(&sheet, bytes, 0).unwrap_or(original.count));
+        }
+        assert_eq!(original.count, ours.count);
+        let speed = |best: &Best| ENTITIES as f64 / best.seconds;
+        println!(
+            "| {count} | {} | {tags} | {} | {:.0} | {:.0} | {:.2} | {:.0} |",
+            sheet.handed.counts[1],
+            original.count,
+            speed(&original),
+            speed(&ours),
+            original.seconds / ours.seconds,
+            speed(&tables),
+        );
+    }
+}
+
+/// How many layers all entities have; each is answered with this number.
+#[cfg(feature = "rattle")]
+fn our_layers(sheet: &Sheet, entities: &[(Vec<u8>, u8)], answer: u64) -> Option<usize> {
+    use crate::ffi::{raw_property_maps, MapRoom};
+    let mut room = MapRoom::new();
+    let mut layers = 0;
+    for (entity, zoom) in entities {
+        let number = raw_property_maps(&sheet.bundle, &sheet.handed, *zoom, entity, &mut room);
+        assert_eq!(number, answer, "answered {:?}", room.out);
+        black_box(&room);
+        layers += room.out[0] as usize;
+    }
+    Some(layers)
+}
+
+#[cfg(not(feature = "rattle"))]
+fn our_layers(_: &Sheet, _: &[(Vec<u8>, u8)], _: u64) -> Option<usize> {
+    None
 }
 
 /// A rule, a definition or an import at the top of a sheet, with the blanks and remarks before it.

@@ -1,7 +1,8 @@
-//! The exports of crates capi_token and capi, one safe wrapper for each. Nothing checks these declarations
+//! The exports of crates capi_token, capi and capi_maps, one safe wrapper for each. Nothing checks these declarations
 //! against the Rattle source; the codes stand at the top of each crate's src/lib.rt.
 
 use crate::loads::{stride, Filled, Lent, Tables, NUMBERS};
+use crate::maps::{Answer, Handed, Layer};
 use crate::tokens::{bits, Cursor, Payload, Step, END, ERROR, KINDS};
 
 #[link(name = "capi_token", kind = "static")]
@@ -37,6 +38,32 @@ extern "C" {
         numbers_len: usize,
         colors: *mut u32,
         colors_len: usize,
+        out: *mut u64,
+        out_len: usize,
+    ) -> u64;
+}
+
+#[link(name = "capi_maps", kind = "static")]
+extern "C" {
+    fn mapcss_property_maps(
+        bundle: *const u8,
+        bundle_len: usize,
+        rules: *const u32,
+        rules_len: usize,
+        selectors: *const u32,
+        selectors_len: usize,
+        tests: *const u32,
+        tests_len: usize,
+        properties: *const u32,
+        properties_len: usize,
+        numbers: *const f64,
+        numbers_len: usize,
+        counts: *const u64,
+        counts_len: usize,
+        zoom: u8,
+        entity: *const u8,
+        entity_len: usize,
+        maps: *mut u32,
         out: *mut u64,
         out_len: usize,
     ) -> u64;
@@ -208,4 +235,82 @@ pub fn load(bundle: &[u8], lent: &Lent) -> Result<Filled, String> {
         }
     }
     Ok(Ok(tables))
+}
+
+/// Words of a layer's row, and of all rows.
+const ROW: usize = 131;
+const WORDS: usize = 33 * ROW;
+
+/// What mapcss_property_maps writes, with some elements behind it that are not lent.
+pub struct MapRoom {
+    pub maps: Vec<u32>,
+    pub out: [u64; 6],
+}
+
+impl MapRoom {
+    /// Filled with what no answer leaves there.
+    pub fn new() -> MapRoom {
+        MapRoom { maps: vec![LEFT_WORD; WORDS + BEHIND], out: [u64::MAX; 6] }
+    }
+}
+
+/// One call as it comes, for timing.
+pub fn raw_property_maps(bundle: &[u8], handed: &Handed, zoom: u8, entity: &[u8], room: &mut MapRoom) -> u64 {
+    assert!(room.maps.len() >= WORDS);
+    let [rules, selectors, tests, properties] = &handed.words;
+    unsafe {
+        mapcss_property_maps(
+            bundle.as_ptr(),
+            bundle.len(),
+            rules.as_ptr(),
+            rules.len(),
+            selectors.as_ptr(),
+            selectors.len(),
+            tests.as_ptr(),
+            tests.len(),
+            properties.as_ptr(),
+            properties.len(),
+            handed.numbers.as_ptr(),
+            handed.numbers.len(),
+            handed.counts.as_ptr(),
+            handed.counts.len(),
+            zoom,
+            entity.as_ptr(),
+            entity.len(),
+            room.maps.as_mut_ptr(),
+            room.out.as_mut_ptr(),
+            5,
+        )
+    }
+}
+
+/// The layers or the refusal; or what the call did wrong with the memory lent.
+pub fn property_maps(bundle: &[u8], handed: &Handed, zoom: u8, entity: &[u8]) -> Result<Answer, String> {
+    let mut room = MapRoom::new();
+    let number = raw_property_maps(bundle, handed, zoom, entity, &mut room);
+    let out = room.out;
+    if out[5] != u64::MAX || room.maps[WORDS..].iter().any(|&word| word != LEFT_WORD) {
+        return Err("wrote behind what was lent".to_string());
+    }
+    let zero = |words: &[u32]| words.iter().all(|&word| word == 0);
+    let rows = &room.maps[..WORDS];
+    if number != 0 {
+        if out[0] != number || !zero(rows) {
+            return Err(format!("refused {number} with {out:?}, maps zero: {}", zero(rows)));
+        }
+        return Ok(Err(out[..5].try_into().unwrap()));
+    }
+    let layers = usize::try_from(out[0]).unwrap_or(usize::MAX);
+    if layers > WORDS / ROW || out[1..5] != [0; 4] || !zero(&rows[layers * ROW..]) {
+        return Err(format!("answered 0 with {out:?}, or the maps are not zero behind the layers"));
+    }
+    let mut answer = Vec::new();
+    for row in rows.chunks(ROW).take(layers) {
+        let count = row[1] as usize;
+        if count > ROW - 2 || !zero(&row[2 + count..]) {
+            return Err(format!("a row of {count} properties is not zero behind them"));
+        }
+        answer.push(Layer { selector: row[0], properties: row[2..2 + count].to_vec() });
+    }
+    Ok(Ok(answer))
 }

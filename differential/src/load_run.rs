@@ -8,6 +8,7 @@ use crate::load_cases::{
 };
 use crate::loads::{decode, stride, Counts, Filled, Lent, Load, Refusal, MOST_ENTRIES, NUMBERS, TABLES};
 use crate::mapcss::parser::probe;
+use crate::mapcss::parser::Rule;
 use crate::model;
 use crate::random::Random;
 use crate::run::{shrunk, SHOWN};
@@ -54,6 +55,18 @@ impl Files {
             self.held.push((name.to_string(), text.to_string()));
         }
     }
+
+    /// Holds what the first text may import; none where a name is none of a file.
+    fn hold_imports(&mut self, texts: &[(&str, &str)]) -> Option<()> {
+        if texts[0].1.contains("@import") {
+            let no_file = |name: &str| name.contains(['/', '\0']) || [".", ".."].contains(&name);
+            if texts.iter().any(|(name, _)| no_file(name)) {
+                return None;
+            }
+            self.hold(&texts[1..]);
+        }
+        Some(())
+    }
 }
 
 impl Drop for Files {
@@ -75,13 +88,15 @@ pub fn original(files: &mut Files, bundle: &[u8], expected: &Filled) -> Option<R
     }
     let texts = bundles::texts(bundle);
     let names: Vec<&str> = texts.iter().map(|text| text.0).collect();
-    if texts[0].1.contains("@import") {
-        if names.iter().any(|name| name.contains(['/', '\0']) || [".", ".."].contains(name)) {
-            return None;
-        }
-        files.hold(&texts[1..]);
-    }
+    files.hold_imports(&texts)?;
     Some(probe::load(&files.directory, &names, texts[0].1))
+}
+
+/// The original's rules of a bundle that loads, where it has an answer.
+pub fn original_rules(files: &mut Files, bundle: &[u8]) -> Option<Vec<Rule>> {
+    let texts = bundles::texts(bundle);
+    files.hold_imports(&texts)?;
+    Some(probe::parse(&files.directory, texts[0].0, texts[0].1).expect("the model has loaded it"))
 }
 
 /// How the original's answer and another differ.

@@ -3,12 +3,17 @@
 mod bench;
 mod bundles;
 mod cases;
+mod entities;
 #[cfg(feature = "rattle")]
 mod ffi;
 mod load_cases;
 mod load_run;
 mod loads;
+mod map_cases;
+mod map_run;
+mod maps;
 mod model;
+mod plates;
 mod random;
 mod run;
 mod sample;
@@ -25,7 +30,7 @@ include!(concat!(env!("OUT_DIR"), "/original.rs"));
 use std::path::PathBuf;
 use std::process::ExitCode;
 
-const USAGE: &str = "differential run SEED COUNT [tokens|loads] | sample DIRECTORY SEED COUNT | bench | sheets";
+const USAGE: &str = "differential run SEED COUNT [tokens|loads|maps] | sample DIRECTORY SEED COUNT | bench | sheets";
 
 /// One load for so many texts of the tokenizer's run.
 const TEXTS_A_LOAD: u64 = 10;
@@ -37,10 +42,12 @@ fn main() -> ExitCode {
     let good = match args[..] {
         ["run", seed, count] => {
             let tokens = run::run(number(seed), number(count));
-            load_run::run(number(seed), number(count) / TEXTS_A_LOAD) && tokens
+            let loads = load_run::run(number(seed), number(count) / TEXTS_A_LOAD);
+            map_run::run(number(seed), number(count)) && loads && tokens
         }
         ["run", seed, count, "tokens"] => run::run(number(seed), number(count)),
         ["run", seed, count, "loads"] => load_run::run(number(seed), number(count) / TEXTS_A_LOAD),
+        ["run", seed, count, "maps"] => map_run::run(number(seed), number(count)),
         ["sample", directory, seed, count] => sample::write(&PathBuf::from(directory), number(seed), number(count)),
         ["bench"] => bench::bench(),
         ["sheets"] => sheets::check(),

@@ -120,12 +120,15 @@ fn test(t: &Test) -> loads::Test {
 }
 
 fn property(p: &Property) -> loads::Property {
-    let value = match &p.value {
+    loads::Property { name: p.name.clone(), value: value(&p.value) }
+}
+
+pub fn value(v: &PropertyValue) -> Value {
+    match v {
         PropertyValue::Identifier(id) => Value::Identifier(id.clone()),
         PropertyValue::String(text) => Value::Text(text.clone()),
         PropertyValue::Color(c) => Value::Color(color(c)),
         PropertyValue::Numbers(all) => Value::Numbers(all.iter().map(|x| bits(*x)).collect()),
         PropertyValue::WidthDelta(x) => Value::Delta(bits(*x)),
-    };
-    loads::Property { name: p.name.clone(), value }
+    }
 }
