@@ -32,7 +32,8 @@ use Rattle.sheet.specs.Sheet.{Rule, Value}
 use Rattle.sound.proofs.Drawn.{reading-lies}
 use Rattle.sound.proofs.Passing.{tables-pass}
 use Rattle.valid.specs.Valid.{tablesSound}
-use Rattle.mapcss.specs.Loads.{countsFor, tablesFor, spelledBy, fiveOf, Loads, Sound, Spelled, Complete, Exactly, OneReading, RefusalZeroes, NeverBroken}
+use Rattle.printing.specs.Plate.{fiveOf}
+use Rattle.mapcss.specs.Loads.{countsFor, tablesFor, spelledBy, Loads, Sound, Spelled, Complete, Exactly, OneReading, RefusalZeroes, NeverBroken}
 use Rattle.mapcss.proofs.Sheets.{reads-as, as-reads}
 
 read-loads :

@@ -15,7 +15,8 @@ use Rattle.parser.specs.Load.{Held}
 use Rattle.parser.specs.declared.Counts.{Counts}
 use Rattle.decode.specs.Decode.{places, numberedAt, rulesAt}
 use Rattle.maps.proofs.Held.{maps-are}
-use Rattle.mapcss.specs.Loads.{fiveOf, spelledBy}
+use Rattle.printing.specs.Plate.{fiveOf}
+use Rattle.mapcss.specs.Loads.{spelledBy}
 use Rattle.mapcss.specs.Maps.{valueNumbered, mapsCall, mapsAnswered, MapsOfSheet, CascadeOfSheet}
 use Rattle.mapcss.proofs.Loading.{exactly, never-broken, rules-spelled}
 

@@ -21,7 +21,7 @@ use Rattle.decode.specs.Decode.{rulesAt}
 use Rattle.sheet.specs.Digits.{digitsOf}
 use Rattle.sheet.specs.Sheet.{Rule, Value}
 use Rattle.valid.specs.Valid.{tablesSound}
-use Rattle.valid.specs.declared.Counts.{Counts as Counts′}
+use Rattle.printing.specs.Plate.{fiveOf}
 use Rattle.mapcss.specs.Sheets.{ReadsAs}
 
 -- what a reading leaves in tables of these lengths, and its counts
@@ -86,9 +86,6 @@ abbrev pub RefusalZeroes : Type 0
 RefusalZeroes = (bundle : Bytes) (l : Lengths) (e : Refusal) (h : Held) → loadOf bundle l ≡ (NotLoaded e, h) → h ≡ zeros l
 
 -- No call that is handed the tables, the counts and the bundle of a load refuses them with 22.
-abbrev pub fiveOf : Counts → Counts′
-fiveOf n = record { rules = n .rules; selectors = n .selectors; tests = n .tests; properties = n .properties; numbers = n .numbers }
-
 abbrev pub NeverBroken : Type 0
 NeverBroken =
     (bundle : Bytes) (l : Lengths) (n : Counts) (h : Held)

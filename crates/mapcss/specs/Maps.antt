@@ -25,7 +25,8 @@ use Rattle.maps.specs.Held.{layersHeld, answerHeld}
 use Rattle.walk.specs.Maps.{mapsOf}
 use Rattle.walk.specs.declared.PropertyMaps.{PropertyMaps}
 use Rattle.walk.specs.declared.PropertyMaps.the-variants.{Maps}
-use Rattle.mapcss.specs.Loads.{tallied, fiveOf, Loads}
+use Rattle.printing.specs.Plate.{fiveOf}
+use Rattle.mapcss.specs.Loads.{tallied, Loads}
 
 -- the tables and counts of a load
 module _ (bundle : Bytes) (n : Counts) (h : Held) where
