@@ -13,7 +13,7 @@ use Rattle.base.specs.Turns.{after, turns}
 use Rattle.utf8.specs.Space.{among, isWhiteSpace}
 use Rattle.utf8.specs.Utf8.{charAt}
 use Rattle.utf8.specs.declared.Char.the-variants.{Code}
-use Rattle.cursor.specs.Cursor.{passed, nextChar}
+use Rattle.cursor.specs.Cursor.{cursor, passed, nextChar}
 use Rattle.cursor.specs.Elim.{on-Next, on-Comment, on-Significant}
 use Rattle.cursor.specs.Blank.{
   lineTurn,
@@ -68,7 +68,7 @@ use Rattle.lexical.specs.Lexical.{
   reference,
   import,
 }
-use Rattle.lexical.specs.Lexed.{charactersAt, Lexed, Complete, CompleteEnd}
+use Rattle.lexical.specs.Lexed.{charactersAt, Lexed, Complete, OneToken, CompleteEnd}
 use Rattle.lexical.proofs.Characters.{
   characters-got,
   characters-done,
@@ -344,3 +344,15 @@ complete s c t to x =
     let u = reads-walk (v .0) (v .1 .1) (x .named) in
     let z = reads-walk (u .0) (u .1 .1) (x .closed) in
     lexed-taken s {e = z .0} x (w .1 .0) (v .1 .0) (v .1 .1) (u .1 .0) (u .1 .1) (z .1 .0) (z .1 .1)
+
+pub one-token : OneToken
+one-token s at t u to to′ l m =
+    let c = cursor at 1 0 false in
+    let x = complete s c t to l in
+    let y = complete s c u to′ m in
+    let d = x .1 .1 .0 in
+    let f = y .1 .1 .0 in
+    let e : Took t (x .0) (x .1 .0) d ≡ Took u (y .0) (y .1 .0) f = sym (x .1 .1 .1 .0) ∙ y .1 .1 .1 .0 in
+    let p : t ≡ u = cc in
+    let q : d ≡ f = cc in
+    (p, sym (x .1 .1 .1 .1) ∙ ap (λ (c : Cursor). c .at) q ∙ y .1 .1 .1 .1)

@@ -59,6 +59,14 @@ Complete =
     → Lexed s (c .at) t to
     → (line : ℕ) × ((character : ℕ) × ((d : Cursor) × ((stepOf s c ≡ Took t line character d) × (d .at ≡ to))))
 
+-- .. so at each place there is one at most ..
+abbrev pub OneToken : Type 0
+OneToken =
+    (s : Bytes) (at : ℕ) (t u : Token) (to to′ : ℕ)
+    → Lexed s at t to
+    → Lexed s at u to′
+    → (t ≡ u) × (to ≡ to′)
+
 -- .. and the end exactly where only blanks are left.
 abbrev pub SoundEnd : Type 0
 SoundEnd = (s : Bytes) (c d : Cursor) → stepOf s c ≡ End d → IsBlank (charactersAt s (c .at)) []

@@ -51,7 +51,7 @@ isNewline k = eqb k 10
 abbrev pub isGap : ℕ → ℕ → Bool
 isGap bracket k = pick (isWhiteSpace k) true (eqb k bracket)
 
--- a k that begins a sign of two letters with this one
+-- whether a character makes a sign of two letters with the one before it
 abbrev pub pairsWith : ℕ → ℕ → Bool
 pairsWith a k = on-Sign (getTwoCharSimpleToken a k) false λ t. true
 

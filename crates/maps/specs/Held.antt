@@ -4,7 +4,7 @@ use mathlib.Core.Bool.{true}
 use mathlib.Core.List.{List, [], _∷_, _++_, map}
 use mathlib.Core.Path.{_≡_}
 use lib.Ieee.{Float}
-use lib.ListN.{getD, take, drop, length, replicate}
+use lib.ListN.{getD, take, drop, length}
 use Rattle.base.specs.Bytes.{Bytes}
 use Rattle.base.specs.Map.{Entry, entry}
 use Rattle.base.specs.declared.refusal.Refusal.{Refusal}
