@@ -37,6 +37,10 @@ module _ (s : Bytes) (at most : ℕ) where
     unfolding numberAt numberFrom on-Number single pick
     number-single b = rw (from-first, numberFrom, lt-ltb _ _ b)
 
+    pub number-short : getD s at 0 < 128 → 128 ≤ most → numberAt s at most ≡ Read (getD s at 0) (at + 1)
+    unfolding single pick
+    number-short b m = sym (number-single b) ∙ (rw (le-leb (getD s at 0) most (omega arith)))
+
     module _ (b : 128 ≤ getD s at 0) where
       -- the number at a place, by the number behind its first byte
       longer : numberAt s at most ≡ on-Number (numberFrom (drop (at + 1) s)) Unread (λ v w. joined (getD s at 0) v most (at + (w + 1)))

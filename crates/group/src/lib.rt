@@ -74,8 +74,22 @@ fn first_byte(b: u8, v: u64, most: u64, next: usize) -> Number
     Number::Unread
 }
 
-// The part at a place: its length as a group number, then so many bytes.
+// The part at a place: its length as a group number, then so many bytes. Most lengths are of one byte.
 pub fn part_at(s: &[u8], at: usize) -> Part
+    ensures { λ r. ⌜ r ≡ partAt (now (s .entry)) at ⌝ }
+{
+    if s.len() <= at {
+        return Part::Cut;
+    }
+    let b = s[at];
+    if b < 128 {
+        return sized(s, b as u64, at + 1);
+    }
+    long_part(s, at)
+}
+
+// The same for a length of any number of bytes.
+fn long_part(s: &[u8], at: usize) -> Part
     ensures { λ r. ⌜ r ≡ partAt (now (s .entry)) at ⌝ }
 {
     match number_at(s, at, 4294967295) {

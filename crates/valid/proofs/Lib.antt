@@ -1,2 +1,4 @@
 pub mod Below
+pub mod Parity
+pub mod Room
 pub mod Tests

@@ -1,32 +1,48 @@
 -- `group::part_at` meets its contract.
-use mathlib.Core.Path.{refl}
-use borrow.Author.Needs.{needs}
-use Rattle.base.specs.Choice.{via}
-use Rattle.group.proofs.part_at.Statement.{statement}
+use native.Mathlib.Omega.{arith}
+use mathlib.Core.Path.{refl, sym}
+use Rattle.group.proofs.Numbers.{number-end, number-short}
 use Rattle.group.specs.Elim.{Number-Read, Number-Unread}
 use Rattle.group.specs.Pair.{partAt}
+use borrow.Author.Needs.{needs}
+use Rattle.group.proofs.part_at.Statement.{statement}
 use Rattle.group.proofs.part_at.Tie as tie
 
-number-at-requires : tie.Need-number-at-requires
-number-at-requires c κs = search needs
+returns : tie.Need-returns
+unfolding partAt
+returns c = Number-Unread _ _ _ (sym (number-end _ _ _ (c .if1 .taken))) refl
 
-enum-told : tie.Need-enum-told
-enum-told c = search needs
+shared-slice-read-b : tie.Need-shared-slice-read-b
+shared-slice-read-b c = search needs
 
-enum-known-n : tie.Need-enum-known-n
-enum-known-n c = search needs
+cast-sized : tie.Need-cast-sized
+cast-sized c = search needs
+
+add-sized : tie.Need-add-sized
+add-sized c = search needs
 
 sized-requires : tie.Need-sized-requires
 sized-requires c κs = search needs
 
-returns : tie.Need-returns
-unfolding partAt
-returns c = Number-Unread _ _ _ (via (c .before .before .number-at .ensures) (c .enum-told .given .1)) refl
-
 returns-2 : tie.Need-returns-2
 unfolding partAt
-returns-2 c = Number-Read _ _ _ (via (c .before .before .before .before .number-at .ensures) (c .before .before .n .given .1)) ((c .sized .ensures))
+returns-2 c = Number-Read _ _ _ (number-short _ _ _ (omega arith) (omega arith) (omega arith)) (c .sized .ensures)
+
+long-part-requires : tie.Need-long-part-requires
+long-part-requires c κs = search needs
+
+returns-3 : tie.Need-returns-3
+returns-3 c = search needs
 
 pub part-at-spec : {M : Type 1} → statement M
 part-at-spec =
-    tie.close (tie.spec number-at-requires enum-told enum-known-n sized-requires returns returns-2)
+    tie.close
+    (tie.spec
+    returns
+    shared-slice-read-b
+    cast-sized
+    add-sized
+    sized-requires
+    returns-2
+    long-part-requires
+    returns-3)

@@ -4,11 +4,11 @@ use Rattle.valid.proofs.Tests.{leb-of}
 use Rattle.valid.proofs.byte_word.Statement.{statement}
 use Rattle.valid.proofs.byte_word.Tie as tie
 
-word-of-requires : tie.Need-word-of-requires
-word-of-requires c κs = search needs
+held-requires : tie.Need-held-requires
+held-requires c κs = search needs
 
 returns : tie.Need-returns
-returns c = leb-of _ _ 255 (c .word-of .ensures)
+returns c = leb-of _ _ 255 (c .held .ensures)
 
 pub byte-word-spec : {M : Type 1} → statement M
-byte-word-spec = tie.close (tie.spec word-of-requires returns)
+byte-word-spec = tie.close (tie.spec held-requires returns)

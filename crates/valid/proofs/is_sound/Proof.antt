@@ -3,6 +3,7 @@ use mathlib.Core.Path.{refl}
 use borrow.Author.Needs.{needs}
 use borrow.Author.Tests.{not-true, not-false}
 use Rattle.base.specs.Choice.{via, if-true, if-false}
+use Rattle.valid.proofs.Room.{counts-room}
 use Rattle.valid.proofs.is_sound.Statement.{statement}
 use Rattle.valid.specs.Valid.{tablesSound}
 use Rattle.valid.proofs.is_sound.Tie as tie
@@ -15,7 +16,7 @@ unfolding tablesSound
 returns c = if-false _ _ _ (via (c .before .counts-held .ensures) (not-true _ (c .if1 .taken))) refl
 
 entries-sound-requires : tie.Need-entries-sound-requires
-entries-sound-requires c κs = search needs
+entries-sound-requires c κs = counts-room _ _ _ _ _ _ (via (c .before .counts-held .ensures) (not-false _ (c .if1 .left)))
 
 returns-2 : tie.Need-returns-2
 unfolding tablesSound

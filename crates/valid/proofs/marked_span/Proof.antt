@@ -8,8 +8,8 @@ use Rattle.valid.proofs.marked_span.Statement.{statement}
 use Rattle.valid.specs.Valid.{markedSpan}
 use Rattle.valid.proofs.marked_span.Tie as tie
 
-word-of-requires : tie.Need-word-of-requires
-word-of-requires c κs = search needs
+held-requires : tie.Need-held-requires
+held-requires c κs = search needs
 
 add-span-at : tie.Need-add-span-at
 add-span-at c = search needs
@@ -19,14 +19,14 @@ span-at-requires c κs = search needs
 
 returns : tie.Need-returns
 unfolding markedSpan
-returns c = if-true _ _ _ (is-eq _ _ 1 (c .before .before .word-of .ensures) (c .before .if1 .taken)) (c .span-at .ensures)
+returns c = if-true _ _ _ (is-eq _ _ 1 (c .before .before .held .ensures) (c .before .if1 .taken)) (c .span-at .ensures)
 
 returns-2 : tie.Need-returns-2
 unfolding markedSpan
 returns-2 c =
     if-false _ _ _
-    (is-ne _ _ 1 (c .before .before .word-of .ensures) (c .before .if1 .left))
-    (if-true _ _ _ (not-eq _ _ 0 (c .before .before .word-of .ensures) (c .if2 .taken)) refl)
+    (is-ne _ _ 1 (c .before .before .held .ensures) (c .before .if1 .left))
+    (if-true _ _ _ (not-eq _ _ 0 (c .before .before .held .ensures) (c .if2 .taken)) refl)
 
 add-zero-at : tie.Need-add-zero-at
 add-zero-at c = search needs
@@ -38,9 +38,9 @@ returns-3 : tie.Need-returns-3
 unfolding markedSpan
 returns-3 c =
     if-false _ _ _
-    (is-ne _ _ 1 (c .before .before .before .before .word-of .ensures) (c .before .before .before .if1 .left))
+    (is-ne _ _ 1 (c .before .before .before .before .held .ensures) (c .before .before .before .if1 .left))
     (if-false _ _ _
-    (not-ne _ _ 0 (c .before .before .before .before .word-of .ensures) (c .before .before .if2 .left))
+    (not-ne _ _ 0 (c .before .before .before .before .held .ensures) (c .before .before .if2 .left))
     (if-false _ _ _ (via (c .before .zero-at .ensures) (not-true _ (c .if3 .taken))) refl))
 
 add-zero-at-2 : tie.Need-add-zero-at-2
@@ -53,10 +53,10 @@ returns-4 : tie.Need-returns-4
 unfolding markedSpan
 returns-4 c =
     if-false _ _ _
-    (is-ne _ _ 1 (c .before .before .before .before .before .word-of .ensures)
+    (is-ne _ _ 1 (c .before .before .before .before .before .held .ensures)
     (c .before .before .before .before .if1 .left))
     (if-false _ _ _
-    (not-ne _ _ 0 (c .before .before .before .before .before .word-of .ensures) (c .before .before .before .if2 .left))
+    (not-ne _ _ 0 (c .before .before .before .before .before .held .ensures) (c .before .before .before .if2 .left))
     (if-true _ _ _
     (via (c .before .before .zero-at .ensures) (not-false _ (c .before .if3 .left)))
     (c .zero-at2 .ensures)))
@@ -65,7 +65,7 @@ pub marked-span-spec : {M : Type 1} → statement M
 marked-span-spec =
     tie.close
     (tie.spec
-    word-of-requires
+    held-requires
     add-span-at
     span-at-requires
     returns

@@ -10,12 +10,12 @@ use Rattle.valid.specs.Valid.{numberValue}
 use denote.Ref.{now}
 use Rattle.valid.proofs.number_value.Tie as tie
 
-word-of-requires : tie.Need-word-of-requires
-word-of-requires c κs = search needs
+held-requires : tie.Need-held-requires
+held-requires c κs = search needs
 
 returns : tie.Need-returns
 unfolding numberValue
-returns c = if-true _ _ _ (is-past _ _ _ (c .before .word-of .ensures) (c .if1 .taken)) refl
+returns c = if-true _ _ _ (is-past _ _ _ (c .before .held .ensures) (c .if1 .taken)) refl
 
 zero-at-requires : tie.Need-zero-at-requires
 zero-at-requires c κs = search needs
@@ -24,7 +24,7 @@ returns-2 : tie.Need-returns-2
 unfolding numberValue
 returns-2 c =
     if-false _ _ _
-    (is-within _ _ _ (c .before .before .before .word-of .ensures) (c .before .before .if1 .left))
+    (is-within _ _ _ (c .before .before .before .held .ensures) (c .before .before .if1 .left))
     (if-false _ _ _ (via (c .before .zero-at .ensures) (not-true _ (c .if2 .taken))) refl)
 
 float-at-requires : tie.Need-float-at-requires
@@ -38,7 +38,7 @@ unfolding numberValue
 returns-3 c =
     if-false _ _ _
     (is-within _ _ _
-    (c .before .before .before .before .before .before .word-of .ensures)
+    (c .before .before .before .before .before .before .held .ensures)
     (c .before .before .before .before .before .if1 .left))
     (if-true _ _ _
     (via (c .before .before .before .before .zero-at .ensures) (not-false _ (c .before .before .before .if2 .left)))
@@ -49,13 +49,13 @@ returns-3 c =
     ∙ float-of
     (now (c .before .before .before .before .before .before .before .before .before .args .xs))
     _ _
-    (c .before .before .before .before .before .before .word-of .ensures)))))
+    (c .before .before .before .before .before .before .held .ensures)))))
 
 returns-4 : tie.Need-returns-4
 unfolding numberValue
 returns-4 c =
     if-false _ _ _
-    (is-within _ _ _ (c .before .before .before .before .word-of .ensures) (c .before .before .before .if1 .left))
+    (is-within _ _ _ (c .before .before .before .before .held .ensures) (c .before .before .before .if1 .left))
     (if-true _ _ _
     (via (c .before .before .zero-at .ensures) (not-false _ (c .before .if2 .left)))
     (if-false _ _ _ (lt-leb _ _ (c .if3 .left)) refl))
@@ -64,7 +64,7 @@ pub number-value-spec : {M : Type 1} → statement M
 number-value-spec =
     tie.close
     (tie.spec
-    word-of-requires
+    held-requires
     returns
     zero-at-requires
     returns-2

@@ -8,12 +8,12 @@ use Rattle.valid.proofs.rule_sound.Statement.{statement}
 use Rattle.valid.specs.Valid.{ruleSound}
 use Rattle.valid.proofs.rule_sound.Tie as tie
 
-word-of-requires : tie.Need-word-of-requires
-word-of-requires c κs = search needs
+held-requires : tie.Need-held-requires
+held-requires c κs = search needs
 
 returns : tie.Need-returns
 unfolding ruleSound
-returns c = if-true _ _ _ (not-eq _ _ _ (c .before .word-of .ensures) (c .if1 .taken)) refl
+returns c = if-true _ _ _ (not-eq _ _ _ (c .before .held .ensures) (c .if1 .taken)) refl
 
 span-at-requires : tie.Need-span-at-requires
 span-at-requires c κs = search needs
@@ -22,7 +22,7 @@ returns-2 : tie.Need-returns-2
 unfolding ruleSound
 returns-2 c =
     if-false _ _ _
-    (not-ne _ _ _ (c .before .before .before .word-of .ensures) (c .before .before .if1 .left))
+    (not-ne _ _ _ (c .before .before .before .held .ensures) (c .before .before .if1 .left))
     (if-false _ _ _ (via (c .before .span-at .ensures) (not-true _ (c .if2 .taken))) refl)
 
 span-at-requires-2 : tie.Need-span-at-requires-2
@@ -32,7 +32,7 @@ returns-3 : tie.Need-returns-3
 unfolding ruleSound
 returns-3 c =
     if-false _ _ _
-    (not-ne _ _ _ (c .before .before .before .before .before .word-of .ensures)
+    (not-ne _ _ _ (c .before .before .before .before .before .held .ensures)
     (c .before .before .before .before .if1 .left))
     (if-true _ _ _
     (via (c .before .before .before .span-at .ensures) (not-false _ (c .before .before .if2 .left)))
@@ -46,7 +46,7 @@ unfolding ruleSound
 returns-4 c =
     if-false _ _ _
     (not-ne _ _ _
-    (c .before .before .before .before .before .before .before .word-of .ensures)
+    (c .before .before .before .before .before .before .before .held .ensures)
     (c .before .before .before .before .before .before .if1 .left))
     (if-true _ _ _
     (via
@@ -64,7 +64,7 @@ unfolding ruleSound
 returns-5 c =
     if-false _ _ _
     (not-ne _ _ _
-    (c .before .before .before .before .before .before .before .before .before .word-of .ensures)
+    (c .before .before .before .before .before .before .before .before .before .held .ensures)
     (c .before .before .before .before .before .before .before .before .if1 .left))
     (if-true _ _ _
     (via
@@ -86,7 +86,7 @@ unfolding ruleSound
 returns-6 c =
     if-false _ _ _
     (not-ne _ _ _
-    (c .before .before .before .before .before .before .before .before .before .before .word-of .ensures)
+    (c .before .before .before .before .before .before .before .before .before .before .held .ensures)
     (c .before .before .before .before .before .before .before .before .before .if1 .left))
     (if-true _ _ _
     (via
@@ -107,7 +107,7 @@ pub rule-sound-spec : {M : Type 1} → statement M
 rule-sound-spec =
     tie.close
     (tie.spec
-    word-of-requires
+    held-requires
     returns
     span-at-requires
     returns-2

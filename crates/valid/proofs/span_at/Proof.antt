@@ -5,14 +5,14 @@ use Rattle.valid.proofs.span_at.Statement.{statement}
 use Rattle.valid.specs.Valid.{spanIn}
 use Rattle.valid.proofs.span_at.Tie as tie
 
-word-of-requires : tie.Need-word-of-requires
-word-of-requires c κs = search needs
+held-requires : tie.Need-held-requires
+held-requires c κs = search needs
 
-add-word-of : tie.Need-add-word-of
-add-word-of c = search needs
+add-held : tie.Need-add-held
+add-held c = search needs
 
-word-of-requires-2 : tie.Need-word-of-requires-2
-word-of-requires-2 c κs = search needs
+held-requires-2 : tie.Need-held-requires-2
+held-requires-2 c κs = search needs
 
 span-in-requires : tie.Need-span-in-requires
 span-in-requires c κs = search needs
@@ -22,7 +22,7 @@ returns c =
     c .span-in .ensures
     ∙ ap₂
     (λ x y. spanIn x y (c .before .before .before .before .args .n))
-    (c .before .before .word-of .ensures) (c .before .word-of2 .ensures)
+    (c .before .before .held .ensures) (c .before .held2 .ensures)
 
 pub span-at-spec : {M : Type 1} → statement M
-span-at-spec = tie.close (tie.spec word-of-requires add-word-of word-of-requires-2 span-in-requires returns)
+span-at-spec = tie.close (tie.spec held-requires add-held held-requires-2 span-in-requires returns)

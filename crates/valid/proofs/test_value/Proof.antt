@@ -7,15 +7,15 @@ use Rattle.valid.proofs.test_value.Statement.{statement}
 use Rattle.valid.specs.Valid.{testValue}
 use Rattle.valid.proofs.test_value.Tie as tie
 
-word-of-requires : tie.Need-word-of-requires
-word-of-requires c κs = search needs
+held-requires : tie.Need-held-requires
+held-requires c κs = search needs
 
 two-zeros-requires : tie.Need-two-zeros-requires
 two-zeros-requires c κs = search needs
 
 returns : tie.Need-returns
 unfolding testValue
-returns c = if-true _ _ _ (is-most _ _ 4 (c .before .before .word-of .ensures) (c .before .if1 .taken)) (c .two-zeros .ensures)
+returns c = if-true _ _ _ (is-most _ _ 4 (c .before .before .held .ensures) (c .before .if1 .taken)) (c .two-zeros .ensures)
 
 span-at-requires : tie.Need-span-at-requires
 span-at-requires c κs = search needs
@@ -24,9 +24,9 @@ returns-2 : tie.Need-returns-2
 unfolding testValue
 returns-2 c =
     if-false _ _ _
-    (is-more _ _ 4 (c .before .before .before .word-of .ensures) (c .before .before .if1 .left))
+    (is-more _ _ 4 (c .before .before .before .held .ensures) (c .before .before .if1 .left))
     (if-true _ _ _
-    (is-most _ _ 6 (c .before .before .before .word-of .ensures) (c .before .if2 .taken)) (c .span-at .ensures))
+    (is-most _ _ 6 (c .before .before .before .held .ensures) (c .before .if2 .taken)) (c .span-at .ensures))
 
 number-value-requires : tie.Need-number-value-requires
 number-value-requires c κs = search needs
@@ -35,16 +35,16 @@ returns-3 : tie.Need-returns-3
 unfolding testValue
 returns-3 c =
     if-false _ _ _
-    (is-more _ _ 4 (c .before .before .before .word-of .ensures) (c .before .before .if1 .left))
+    (is-more _ _ 4 (c .before .before .before .held .ensures) (c .before .before .if1 .left))
     (if-false _ _ _
-    (is-more _ _ 6 (c .before .before .before .word-of .ensures) (c .before .if2 .left))
-    (c .number-value .ensures ∙ value-of _ _ _ _ _ _ (c .before .before .before .word-of .ensures)))
+    (is-more _ _ 6 (c .before .before .before .held .ensures) (c .before .if2 .left))
+    (c .number-value .ensures ∙ value-of _ _ _ _ _ _ (c .before .before .before .held .ensures)))
 
 pub test-value-spec : {M : Type 1} → statement M
 test-value-spec =
     tie.close
     (tie.spec
-    word-of-requires
+    held-requires
     two-zeros-requires
     returns
     span-at-requires
