@@ -4,14 +4,14 @@ use mathlib.Core.Path.{_≡_}
 use mathlib.Core.Bool.{Bool, true, false, _&&_, _||_, not, cond}
 use mathlib.Core.List.{List, [], _∷_, _++_, map}
 use mathlib.Core.Option.{Option·getD}
-use lib.Dec.{leb}
+use lib.Dec.{leb, ltb}
 use lib.ListN.{length}
 use lib.IntN.{ℤ, pos}
 use lib.Ieee.{Float, isNan}
 use Rattle.base.specs.Bytes.{Bytes}
 use Rattle.base.specs.Map.{Map}
 use Rattle.base.specs.Entity.{Entity}
-use Rattle.base.specs.Refusal.{ofEntity}
+use Rattle.base.specs.Refusal.{refusal, ofEntity}
 use Rattle.base.specs.declared.refusal.Refusal.{Refusal}
 use Rattle.sheet.specs.Sheet.{Rule, Value}
 use Rattle.cascade.specs.Map.{keep}
@@ -20,11 +20,13 @@ use Rattle.cascade.specs.Style.{Style, Settings, styles}
 use Rattle.cascade.specs.Order.{andThenBy, intLe, boolLe, floatLe}
 use Rattle.cascade.specs.Sort.{sort, Sorted, tied, Permutation}
 
--- one styled layer of one entity: which stream and which place in it the entity has, and the layer's name
+-- one styled layer of one entity: which stream and which place in it the entity has, the layer's place among the entity's styled
+-- layers, and its name
 pub record Drawn : Type 0 where
   pub multipolygon : Bool
   pub place : ℕ
   pub entity : Entity
+  pub styled : ℕ
   pub layer : Bytes
   pub style : Style
 
@@ -60,13 +62,19 @@ unfoldable pub someNan : Map Style → Bool
 someNan [] = false
 someNan (l ∷ ls) = isNan (l .value .zIndex) || someNan ls
 
+-- the styled layers of an entity, numbered from k on
+unfoldable pub drawnFrom : Bool → ℕ → Entity → ℕ → Map Style → List Drawn
+drawnFrom mp i e k [] = []
+drawnFrom mp i e k (l ∷ ls) =
+    record { multipolygon = mp; place = i; entity = e; styled = k; layer = l .key; style = l .value } ∷ drawnFrom mp i e (suc k) ls
+
 -- 9, a z-index that is NaN, comes after the entity's own refusals
 unfoldable pub entityDrawing : Bool → Settings → ℕ → Entity → Answer Value → Drawing
 entityDrawing mp s i e (refused n) = declined (ofEntity n mp i)
 entityDrawing mp s i e (layers v) =
     cond (someNan (styles s e v))
     (declined (ofEntity 9 mp i))
-    (entries (map (λ l. record { multipolygon = mp; place = i; entity = e; layer = l .key; style = l .value }) (styles s e v)))
+    (entries (drawnFrom mp i e 0 (styles s e v)))
 
 -- the first refusal decides
 unfoldable pub join : (List Drawn → List Drawn → List Drawn) → Drawing → Drawing → Drawing
@@ -78,6 +86,22 @@ join f (entries xs) (entries ys) = entries (f xs ys)
 unfoldable pub stream : Bool → Settings → ℕ → List (Rule Value) → ℕ → List Entity → Drawing
 stream mp s z rs i [] = entries []
 stream mp s z rs i (e ∷ es) = join _++_ (entityDrawing mp s i e (propertyMaps z e rs)) (stream mp s z rs (suc i) es)
+
+-- The same with room for so many entries, of which n are taken: 25 where those of an entity do not fit, before a later entity is
+-- looked at.
+unfoldable pub fit : ℕ → ℕ → Drawing → Drawing
+fit room n (declined r) = declined r
+fit room n (entries xs) = cond (ltb room (n + length xs)) (declined (refusal 25 0 0 0 0)) (entries xs)
+
+unfoldable pub size : Drawing → ℕ
+size (declined r) = 0
+size (entries xs) = length xs
+
+unfoldable pub streamWithin : ℕ → Bool → Settings → ℕ → List (Rule Value) → ℕ → ℕ → List Entity → Drawing
+streamWithin room mp s z rs n i [] = entries []
+streamWithin room mp s z rs n i (e ∷ es) =
+    let d = fit room n (entityDrawing mp s i e (propertyMaps z e rs)) in
+    join _++_ d (streamWithin room mp s z rs (n + size d) (suc i) es)
 
 -- ---- drawing lists
 

@@ -26,7 +26,7 @@ use Rattle.cascade.specs.Order.{TotalPreorder, intLe, boolLe, floatLe}
 use Rattle.cascade.specs.OrderLaws.{by-key, and-then, nat-order, int-order, bool-order, float-order, lt-asym}
 use Rattle.cascade.specs.Sort.{sort, merge, tied}
 use Rattle.cascade.specs.SortLaws.{sort-permutes, sort-sorted, sort-stable, stable-one, merge-sort, all-sort, sort-alike, merge-alike}
-use Rattle.cascade.specs.Draw.{Drawn, Drawing, declined, entries, layerRank, fillRank, zRank, idRank, notAfter, someNan, entityDrawing, join, stream, styleEntities, styleAreas, Ordered, Declines}
+use Rattle.cascade.specs.Draw.{Drawn, Drawing, declined, entries, layerRank, fillRank, zRank, idRank, notAfter, someNan, drawnFrom, entityDrawing, join, stream, styleEntities, styleAreas, Ordered, Declines}
 use Rattle.cascade.specs.RustDraw.{sameInt, compareInt, compareBool, compareFloat, fill, compareStyled, notGreater, rustEntities, rustAreas}
 
 -- ---- the order
@@ -80,14 +80,14 @@ joined f (entries xs) (entries ys) ds p = (xs, ys, refl, refl, cc)
 
 module _ (mp : Bool) (s : Settings) where
   shown :
-      (i : ℕ) (e : Entity) (ls : Map Style)
+      (i : ℕ) (e : Entity) (k : ℕ) (ls : Map Style)
       → someNan ls ≡ false
-      → All noNan (map (λ l. record { multipolygon = mp; place = i; entity = e; layer = l .key; style = l .value }) ls)
-  unfolding All someNan
-  shown i e [] h = tt
-  shown i e (l ∷ ls) h = (
+      → All noNan (drawnFrom mp i e k ls)
+  unfolding All someNan drawnFrom
+  shown i e k [] h = tt
+  shown i e k (l ∷ ls) h = (
     (rw (or-left (isNan (l .value .zIndex)) (someNan ls) h)),
-    shown i e ls (or-right (isNan (l .value .zIndex)) (someNan ls) h),
+    shown i e (suc k) ls (or-right (isNan (l .value .zIndex)) (someNan ls) h),
   )
 
   entity-shown : (i : ℕ) (e : Entity) (a : Answer Value) (ds : List Drawn) → entityDrawing mp s i e a ≡ entries ds → All noNan ds
@@ -98,10 +98,8 @@ module _ (mp : Bool) (s : Settings) where
       (λ h. declined-entries (ofEntity 9 mp i) ds (rw h at p))
       (λ h.
       let q = rw h at p in
-      let r :
-      map (λ (l : Entry Style). record { multipolygon = mp; place = i; entity = e; layer = l .key; style = l .value }) (styles s e v) ≡ ds =
-      cc in
-      rw (← r) (shown i e (styles s e v) h))
+      let r : drawnFrom mp i e 0 (styles s e v) ≡ ds = cc in
+      rw (← r) (shown i e 0 (styles s e v) h))
 
   -- a NaN never comes to be sorted
   pub stream-shown :

@@ -183,6 +183,18 @@ parts sort s at r e =
     (λ h. none-whole (rw (a, b, c, d, f, g, h) at e)))))))
     (λ b. none-whole (rw (a, b) at e)))
 
+-- it ends behind its first byte and within the text, whatever the text is
+pub end-there :
+    (sort : Sort) (s : Bytes) (at : ℕ) (r : EntityRange)
+    → entityAt sort s at ≡ Whole r
+    → (at < r .end) × (r .end ≤ length s)
+end-there sort s at r e =
+    let p = parts sort s at r e in
+    let a = number-within s (at + 1) 18446744073709551615 (r .id) (p .middle) (p .id) in
+    let b = number-within s (p .middle) 256 (r .count) (r .tags) (p .count) in
+    let c = skip-within (r .count) s (r .tags) (r .end) (p .ends) (b .1) in
+    (omega arith, c .1)
+
 kind-low : (sort : Sort) (k : ℕ) → kindFits sort k ≡ true → k ≤ 2
 kind-low Any k e = leb-true k 2 e
 kind-low Nodes k e = let z = eqb-true k 0 e in omega arith
@@ -213,14 +225,6 @@ module _ (sort : Sort) (s : Bytes) (at : ℕ) (r : EntityRange) (all : AllBytes 
       ∙ ap (λ (k : ℕ). (groupOf k ++ mapBytes m) ++ t) (sym tags-count))
       ∙ sym (append-assoc (groupOf (r .id)) (groupOf (length m) ++ mapBytes m) t))
 
-  end-there : (at < r .end) × (r .end ≤ length s)
-  end-there =
-      let p = parts sort s at r e in
-      let a = number-within s (at + 1) 18446744073709551615 (r .id) (p .middle) (p .id) in
-      let b = number-within s (p .middle) 256 (r .count) (r .tags) (p .count) in
-      let c = skip-within (r .count) s (r .tags) (r .end) (p .ends) (b .1) in
-      (omega arith, c .1)
-
   within-limits : IsEntity (valueOf s r)
   unfolding valueOf tagsOf
   within-limits =
@@ -230,7 +234,7 @@ module _ (sort : Sort) (s : Bytes) (at : ℕ) (r : EntityRange) (all : AllBytes 
       let l = ap length bytes-there ∙ length-append (entityBytes (valueOf s r)) (drop (r .end) s) in
       let l₁ = length-drop at s in
       let l₂ = length-drop (r .end) s in
-      let d = end-there in
+      let d = end-there sort s at r e in
       let h = p .short in
       record {
         kind = kind-low sort (r .kind) (p .fits);
@@ -242,7 +246,7 @@ module _ (sort : Sort) (s : Bytes) (at : ℕ) (r : EntityRange) (all : AllBytes 
 
   pub entity-written : EntityWritten sort s at r
   entity-written =
-      let d = end-there in
+      let d = end-there sort s at r e in
       record {
         fits = parts sort s at r e .fits;
         within = within-limits;

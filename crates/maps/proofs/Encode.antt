@@ -17,9 +17,9 @@ use Rattle.base.specs.Table.{padded}
 use Rattle.cascade.specs.Clause.{star}
 use Rattle.cascade.specs.Numbered.{assign, spelled}
 use Rattle.decode.specs.Decode.{places}
-use Rattle.walk.specs.Rows.{assigns}
+use Rattle.walk.specs.Rows.{assigns, numbersAt}
 use Rattle.walk.specs.Run.{stop, going, over, copied, assignAt, seek, newRow}
-use Rattle.maps.specs.Held.{numbersAt, rowsAt, layerHeld}
+use Rattle.maps.specs.Held.{rowsAt, layerHeld}
 use Rattle.maps.proofs.Book.{Row, row, Book, noRow, words, rowsOf, encode, slim, spell, layerPlace}
 
 assign-grows : (name : ℕ → Bytes) (js : List ℕ) (i : ℕ) → length js ≤ length (assign name js i)

@@ -1,12 +1,13 @@
 -- The layers that a table of property maps holds, and what they are in the theory.
-use Prim.Native.Nat.{ℕ, _+_, _*_}
-use mathlib.Core.Bool.{true}
+use Prim.Native.Nat.{ℕ, _+_, _*_, _≤_}
+use mathlib.Core.Bool.{Bool, true}
 use mathlib.Core.List.{List, [], _∷_, _++_, map}
 use mathlib.Core.Path.{_≡_}
 use lib.Ieee.{Float}
 use lib.ListN.{getD, take, drop, length}
 use Rattle.base.specs.Bytes.{Bytes}
 use Rattle.base.specs.Map.{Entry, entry}
+use Rattle.base.specs.Refusal.{ofEntity}
 use Rattle.base.specs.declared.refusal.Refusal.{Refusal}
 use Rattle.entity.specs.Layout.{singleOf, valueOf}
 use Rattle.entity.specs.declared.EntityRange.{EntityRange}
@@ -19,13 +20,10 @@ use Rattle.cascade.specs.Walk.{Answer, refused, layers, propertyMaps}
 use Rattle.valid.specs.Valid.{tablesSound}
 use Rattle.valid.specs.declared.Counts.{Counts}
 use Rattle.decode.specs.Decode.{places, selectorIn, nameAt, numberedAt}
-use Rattle.walk.specs.Maps.{noRows, mapsOf}
+use Rattle.walk.specs.Maps.{noRows, walkOf, mapsOf}
+use Rattle.walk.specs.Rows.{numbersAt}
 use Rattle.walk.specs.declared.PropertyMaps.{PropertyMaps}
 use Rattle.walk.specs.declared.PropertyMaps.the-variants.{NoMaps, Maps}
-
--- the numbers of the properties of layer i
-abbrev pub numbersAt : List ℕ → ℕ → List ℕ
-numbersAt t i = take (getD t (i * 131 + 1) 0) (drop (i * 131 + 2) t)
 
 -- the words of layer i: the selector that named it, the count and the numbers of its properties, and zeros
 abbrev pub rowAt : List ℕ → ℕ → List ℕ
@@ -56,6 +54,33 @@ MapsAre =
     → answerHeld (nameAt bundle properties) (λ s. layerName (selectorIn bundle selectors tests numbers s))
     (mapsOf bundle rules selectors tests properties numbers n zoom entity)
     ≡ propertyMaps zoom (valueOf entity e) (map (numberedAt bundle rules selectors tests properties numbers) (places 0 (n .rules)))
+
+-- .. whatever place the entity has in a stream ..
+abbrev pub WalkIs : Type 0
+WalkIs =
+    (bundle : Bytes) (rules selectors tests properties : List ℕ) (numbers : List Float) (total zoom : ℕ) (entity : Bytes) (e : EntityRange)
+    (multipolygons : Bool) (place : ℕ)
+    → total ≤ 16384
+    → answerHeld (nameAt bundle properties) (λ s. layerName (selectorIn bundle selectors tests numbers s))
+    (walkOf bundle rules selectors tests properties numbers total zoom entity e multipolygons place)
+    ≡ propertyMaps zoom (valueOf entity e) (map (numberedAt bundle rules selectors tests properties numbers) (places 0 total))
+
+-- .. at most 32 of them ..
+abbrev pub FewLayers : Type 0
+FewLayers =
+    (bundle : Bytes) (rules selectors tests properties : List ℕ) (numbers : List Float) (total zoom : ℕ) (entity : Bytes) (e : EntityRange)
+    (multipolygons : Bool) (place k : ℕ) (t : List ℕ)
+    → walkOf bundle rules selectors tests properties numbers total zoom entity e multipolygons place ≡ (Maps k, t)
+    → k ≤ 32
+
+-- .. a refusal names the entity's place ..
+abbrev pub RefusalNamed : Type 0
+RefusalNamed =
+    (bundle : Bytes) (rules selectors tests properties : List ℕ) (numbers : List Float) (total zoom : ℕ) (entity : Bytes) (e : EntityRange)
+    (multipolygons : Bool) (place : ℕ) (r : Refusal) (t : List ℕ)
+    → total ≤ 16384
+    → walkOf bundle rules selectors tests properties numbers total zoom entity e multipolygons place ≡ (NoMaps r, t)
+    → r ≡ ofEntity (r .number) multipolygons place
 
 -- .. and the table is the rows of its layers, with zeros behind them; it is all zero after a refusal.
 abbrev pub ZeroBehind : Type 0

@@ -6,7 +6,7 @@ use mathlib.Core.Bool.{Bool, true, false, not}
 use mathlib.Core.List.{List}
 use lib.Ieee.{Float}
 use lib.ListN.{length, replicate}
-use borrow.Author.Tests.{leb-true, not-true, not-false}
+use borrow.Author.Tests.{leb-true, lt-ltb, le-ltb, not-true, not-false}
 use Rattle.base.specs.Bytes.{Bytes}
 use Rattle.base.specs.Choice.{pick, via, if-true, if-false}
 use Rattle.base.specs.Refusal.{refusal, ofEntity}
@@ -28,8 +28,8 @@ use Rattle.matching.specs.declared.Fit.the-variants.{Out, Misses, Fits}
 use Rattle.walk.proofs.LayerLaws.{told-stop, told-going, bind-stop, bind-going, one-less, none-left}
 use Rattle.walk.specs.declared.Stepped.{Stepped}
 use Rattle.walk.specs.declared.Stepped.the-variants.{Refused, Now}
-use Rattle.walk.specs.Run.{Run, stop, going, told, stepOf, onVerdict, hitOf, selectorsOf, ruleOf, rulesOf}
-use Rattle.walk.specs.Maps.{noRows, finish, mapsOf}
+use Rattle.walk.specs.Run.{Run, stop, going, told, seek, stepOf, onVerdict, hitOf, selectorsOf, ruleOf, rulesOf}
+use Rattle.walk.specs.Maps.{noRows, finish, walkOf, mapsOf, layerPlace}
 use Rattle.walk.specs.Selectors.{layerIn, verdictIn}
 use Rattle.walk.specs.declared.PropertyMaps.{PropertyMaps}
 use Rattle.walk.specs.declared.PropertyMaps.the-variants.{NoMaps, Maps}
@@ -107,14 +107,19 @@ module _ (name layer : ℕ → Bytes) (verdictOf : ℕ → Verdict) (t : List �
 pub zeroed : (n : ℕ) (u : List ℕ) → u ≡ replicate n 0 → n ≡ 4323 → u ≡ noRows
 zeroed n u e p = e ∙ ap (λ k. replicate k 0) p
 
-module _ (q : Stepped) (t u : List ℕ) where
-  pub finish-refused : (k : ℕ) (e : Refusal) → q ≡ Refused k → e ≡ ofEntity k false 0 → u ≡ noRows → (NoMaps e, u) ≡ finish (told q t)
+module _ (multipolygons : Bool) (place : ℕ) (q : Stepped) (t u : List ℕ) where
+  pub finish-refused :
+      (k : ℕ) (e : Refusal)
+      → q ≡ Refused k
+      → e ≡ ofEntity k multipolygons place
+      → u ≡ noRows
+      → (NoMaps e, u) ≡ finish multipolygons place (told q t)
   unfolding finish
-  finish-refused k e y z w = ap₂ (λ x v. (NoMaps x, v)) z w ∙ sym (ap (λ a. finish (told a t)) y)
+  finish-refused k e y z w = ap₂ (λ x v. (NoMaps x, v)) z w ∙ sym (ap (λ a. finish multipolygons place (told a t)) y)
 
-  pub finish-going : (n : ℕ) → q ≡ Now n → (Maps n, t) ≡ finish (told q t)
+  pub finish-going : (n : ℕ) → q ≡ Now n → (Maps n, t) ≡ finish multipolygons place (told q t)
   unfolding finish
-  finish-going n y = sym (ap (λ a. finish (told a t)) y)
+  finish-going n y = sym (ap (λ a. finish multipolygons place (told a t)) y)
 
 held-first : (b x : Bool) → pick b x false ≡ true → b ≡ true
 unfolding pick
@@ -132,37 +137,81 @@ module _ (bundle rules selectors tests properties : List ℕ) (numbers : List Fl
   pub rules-few : (b : Bool) → b ≡ sound → not b ≡ false → n .rules ≤ 16384
   rules-few b i y = few (via i (not-false b y))
 
-  module _ (zoom : ℕ) (entity : Bytes) (b : Bool) (i : b ≡ sound) (u : List ℕ) (z : u ≡ noRows) where
+  module _ (zoom : ℕ) (entity : Bytes) (b : Bool) (i : b ≡ sound) where
     pub maps-broken :
         not b ≡ true
+        → (u : List ℕ)
+        → u ≡ noRows
         → (e : Refusal)
         → e ≡ refusal 22 0 0 0 0
         → (NoMaps e, u) ≡ mapsOf bundle rules selectors tests properties numbers n zoom entity
     unfolding mapsOf
-    maps-broken y e w = if-false _ _ _ (via i (not-true b y)) (ap₂ (λ x v. (NoMaps x, v)) w z)
+    maps-broken y u z e w = if-false _ _ _ (via i (not-true b y)) (ap₂ (λ x v. (NoMaps x, v)) w z)
 
     module _ (y : not b ≡ false) (q : SingleEntity) (j : q ≡ singleOf entity) where
-      pub maps-bad : (e : Refusal) → q ≡ BadEntity e → (NoMaps e, u) ≡ mapsOf bundle rules selectors tests properties numbers n zoom entity
+      pub maps-bad :
+          (u : List ℕ)
+          → u ≡ noRows
+          → (e : Refusal)
+          → q ≡ BadEntity e
+          → (NoMaps e, u) ≡ mapsOf bundle rules selectors tests properties numbers n zoom entity
       unfolding mapsOf
-      maps-bad e w = if-true _ _ _ (via i (not-false b y)) (SingleEntity-BadEntity _ _ _ (via j w) (ap (λ v. (NoMaps e, v)) z))
+      maps-bad u z e w =
+          if-true _ _ _ (via i (not-false b y)) (SingleEntity-BadEntity _ _ _ (via j w) (ap (λ v. (NoMaps e, v)) z))
 
       pub maps-walked :
           (e : EntityRange)
           → q ≡ OneEntity e
-          → (a : Run)
-          → a ≡ rulesOf (nameAt bundle properties) (layerIn bundle selectors)
-          (verdictIn bundle selectors tests numbers zoom entity e) rules u 0 0 (n .rules)
           → (x : PropertyMaps × List ℕ)
-          → x ≡ finish a
+          → x ≡ walkOf bundle rules selectors tests properties numbers (n .rules) zoom entity e false 0
           → x ≡ mapsOf bundle rules selectors tests properties numbers n zoom entity
       unfolding mapsOf
-      maps-walked e w a walked x done =
-          if-true _ _ _ (via i (not-false b y))
-          (SingleEntity-OneEntity _ _ _ (via j w)
-          (done
-          ∙ ap finish
-          (walked
-          ∙ ap
-          (λ (d : List ℕ).
-          rulesOf (nameAt bundle properties) (layerIn bundle selectors)
-          (verdictIn bundle selectors tests numbers zoom entity e) rules d 0 0 (n .rules)) z)))
+      maps-walked e w x walked = if-true _ _ _ (via i (not-false b y)) (SingleEntity-OneEntity _ _ _ (via j w) walked)
+
+-- ---- the walk alone
+
+module _ (bundle rules selectors tests properties : List ℕ) (numbers : List Float) (total zoom : ℕ) (entity : Bytes) (e : EntityRange)
+    (multipolygons : Bool) (place : ℕ) where
+  pub walk-many :
+      16384 < total
+      → (r : Refusal)
+      → r ≡ refusal 22 0 0 0 0
+      → (u : List ℕ)
+      → u ≡ noRows
+      → (NoMaps r, u) ≡ walkOf bundle rules selectors tests properties numbers total zoom entity e multipolygons place
+  unfolding walkOf
+  walk-many h r w u z = if-true _ _ _ (lt-ltb 16384 total h) (ap₂ (λ x v. (NoMaps x, v)) w z)
+
+  pub walk-done :
+      total ≤ 16384
+      → (u : List ℕ)
+      → u ≡ noRows
+      → (a : Run)
+      → a ≡ rulesOf (nameAt bundle properties) (layerIn bundle selectors)
+      (verdictIn bundle selectors tests numbers zoom entity e) rules u 0 0 total
+      → (x : PropertyMaps × List ℕ)
+      → x ≡ finish multipolygons place a
+      → x ≡ walkOf bundle rules selectors tests properties numbers total zoom entity e multipolygons place
+  unfolding walkOf
+  walk-done h u z a walked x done =
+      if-false _ _ _ (le-ltb 16384 total h)
+      (done
+      ∙ ap (finish multipolygons place)
+      (walked
+      ∙ ap
+      (λ (d : List ℕ).
+      rulesOf (nameAt bundle properties) (layerIn bundle selectors)
+      (verdictIn bundle selectors tests numbers zoom entity e) rules d 0 0 total) z))
+
+pub place-many : (layer : ℕ → Bytes) (t : List ℕ) (n : ℕ) (name : Bytes) → 32 < n → n ≡ layerPlace layer t n name
+unfolding layerPlace
+place-many layer t n name h = if-true _ _ _ (lt-ltb 32 n h) refl
+
+pub place-few :
+    (layer : ℕ → Bytes) (t : List ℕ) (n : ℕ) (name : Bytes)
+    → n ≤ 32
+    → (r : ℕ)
+    → r ≡ seek layer t name 0 n
+    → r ≡ layerPlace layer t n name
+unfolding layerPlace
+place-few layer t n name h r e = if-false _ _ _ (le-ltb 32 n h) e

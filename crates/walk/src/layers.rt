@@ -2,37 +2,17 @@
 ghost use mathlib.Core.Path.{_≡_};
 ghost use Prim.Native.Nat.{_+_, _-_, _≤_};
 ghost use lib.ListN.{length};
-ghost use Rattle.base.specs.Bytes.{same};
 ghost use Rattle.decode.specs.Decode.{nameAt, places};
 ghost use Rattle.walk.specs.Selectors.{layerIn};
 ghost use Rattle.walk.specs.Run.{told, bounded, assignAt, assignAll, copied, seek, newRow, touchOf, stepOf};
 use crate::Stepped;
+use crate::names::is_layer;
 use base::Range;
 use base::refusal::TOO_MANY_LAYERS;
 use base::refusal::TOO_MANY_NAMES;
 
-// Whether selector s is of the layer of this name.
-fn is_layer(bundle: &[u8], selectors: &[u32], s: u32, name: &[u8]) -> bool
-    ensures { λ r. ⌜ r ≡ same (now (name .entry)) (layerIn (now (bundle .entry)) (now (selectors .entry)) s) ⌝ }
-{
-    let i = s as usize;
-    if table::word_of(selectors, i, 5) != 1 {
-        return base::same_bytes(name, b"default");
-    }
-    base::same_bytes(
-        name,
-        base::part(
-            bundle,
-            Range {
-                from: table::word_of(selectors, i, 6),
-                to: table::word_of(selectors, i, 7),
-            },
-        ),
-    )
-}
-
 // The place of the layer of this name among the first n, or n.
-fn find_named(bundle: &[u8], selectors: &[u32], t: &[u32], n: usize, name: &[u8]) -> usize
+pub fn find_named(bundle: &[u8], selectors: &[u32], t: &[u32], n: usize, name: &[u8]) -> usize
     requires { ⌜ n ≤ 32 ⌝ }
     ensures { λ r. ⌜ r ≡ seek (layerIn (now (bundle .entry)) (now (selectors .entry))) (now (t .entry)) (now (name .entry)) 0 n ⌝ }
 {

@@ -3,7 +3,7 @@ ghost use mathlib.Core.Path.{_≡_};
 ghost use Prim.Native.Nat.{_≤_, _<_, _-_};
 ghost use lib.ListN.{length};
 ghost use Rattle.decode.specs.Decode.{nameAt, places};
-ghost use Rattle.walk.specs.Maps.{finish, mapsOf};
+ghost use Rattle.walk.specs.Maps.{finish, walkOf, mapsOf, few, layerPlace};
 ghost use Rattle.walk.specs.Run.{told, bounded, hitOf, ruleOf, rulesOf};
 ghost use Rattle.walk.specs.Selectors.{layerIn, verdictIn};
 use base::refusal::Refusal;
@@ -20,6 +20,7 @@ use valid::Counts;
 use valid::is_sound;
 
 mod layers;
+pub mod names;
 mod rows;
 
 // A refusal's number, or the count of layers.
@@ -48,8 +49,8 @@ pub fn property_maps(
     maps: &mut [u32; 4323],
 ) -> PropertyMaps
     ensures { λ r. ⌜ (r, now (maps .exit)) ≡ mapsOf (now (bundle .entry)) (now (rules .entry)) (now (selectors .entry)) (now (tests .entry)) (now (properties .entry)) (now (numbers .entry)) n zoom (now (entity .entry)) ⌝ }
+    ensures { λ r. ⌜ few r ⌝ }
 {
-    zero_words(&mut maps[..]);
     if !is_sound(
         rules,
         selectors,
@@ -59,38 +60,91 @@ pub fn property_maps(
         n,
         bundle.len(),
     ) {
+        zero_words(&mut maps[..]);
         return PropertyMaps::NoMaps(Refusal::plain(TABLE_BROKEN));
     }
     match single_entity(entity) {
-        SingleEntity::BadEntity(r) => PropertyMaps::NoMaps(r),
-        SingleEntity::OneEntity(e) => {
-            let q = walk_rules(
-                bundle,
-                rules,
-                selectors,
-                tests,
-                properties,
-                numbers,
-                n.rules,
-                zoom,
-                entity,
-                e,
-                &mut maps[..],
-            );
-            finish_maps(q, &mut maps[..])
+        SingleEntity::BadEntity(r) => {
+            zero_words(&mut maps[..]);
+            PropertyMaps::NoMaps(r)
         }
+        SingleEntity::OneEntity(e) => walk_entity(
+            bundle,
+            rules,
+            selectors,
+            tests,
+            properties,
+            numbers,
+            n.rules,
+            zoom,
+            entity,
+            e,
+            false,
+            0,
+            maps,
+        ),
     }
 }
 
+// The walk alone, for callers that have judged the tables and the entity, which has this place in its stream.
+pub fn walk_entity(
+    bundle: &[u8],
+    rules: &[u32],
+    selectors: &[u32],
+    tests: &[u32],
+    properties: &[u32],
+    numbers: &[f64],
+    total: usize,
+    zoom: u8,
+    entity: &[u8],
+    e: EntityRange,
+    multipolygons: bool,
+    place: usize,
+    maps: &mut [u32; 4323],
+) -> PropertyMaps
+    ensures { λ r. ⌜ (r, now (maps .exit)) ≡ walkOf (now (bundle .entry)) (now (rules .entry)) (now (selectors .entry)) (now (tests .entry)) (now (properties .entry)) (now (numbers .entry)) total zoom (now (entity .entry)) e multipolygons place ⌝ }
+    ensures { λ r. ⌜ few r ⌝ }
+{
+    zero_words(&mut maps[..]);
+    if 16384 < total {
+        return PropertyMaps::NoMaps(Refusal::plain(TABLE_BROKEN));
+    }
+    let q = walk_rules(
+        bundle,
+        rules,
+        selectors,
+        tests,
+        properties,
+        numbers,
+        total,
+        zoom,
+        entity,
+        e,
+        &mut maps[..],
+    );
+    finish_maps(q, multipolygons, place, &mut maps[..])
+}
+
+// The place of the layer of this name among the first n of a table of maps, or n.
+pub fn layer_place(bundle: &[u8], selectors: &[u32], maps: &[u32], n: usize, name: &[u8]) -> usize
+    ensures { λ r. ⌜ r ≡ layerPlace (layerIn (now (bundle .entry)) (now (selectors .entry))) (now (maps .entry)) n (now (name .entry)) ⌝ }
+{
+    if 32 < n {
+        return n;
+    }
+    layers::find_named(bundle, selectors, maps, n, name)
+}
+
 // What the end of a walk answers: a refusal leaves a table of zeros.
-fn finish_maps(q: Stepped, t: &mut [u32]) -> PropertyMaps
-    requires { ⌜ length (now t) ≡ 4323 ⌝ }
-    ensures { λ r. ⌜ (r, now (t .exit)) ≡ finish (told q (now (t .entry))) ⌝ }
+fn finish_maps(q: Stepped, multipolygons: bool, place: usize, t: &mut [u32]) -> PropertyMaps
+    requires { ⌜ (length (now t) ≡ 4323) × bounded q ⌝ }
+    ensures { λ r. ⌜ (r, now (t .exit)) ≡ finish multipolygons place (told q (now (t .entry))) ⌝ }
+    ensures { λ r. ⌜ few r ⌝ }
 {
     match q {
         Stepped::Refused(k) => {
             zero_words(t);
-            PropertyMaps::NoMaps(Refusal::of_entity(k, false, 0))
+            PropertyMaps::NoMaps(Refusal::of_entity(k, multipolygons, place))
         }
         Stepped::Now(m) => PropertyMaps::Maps(m),
     }
@@ -112,6 +166,7 @@ fn walk_rules(
 ) -> Stepped
     requires { ⌜ (total ≤ 16384) × (length (now t) ≡ 4323) ⌝ }
     ensures { λ q. ⌜ told q (now (t .exit)) ≡ rulesOf (nameAt (now (bundle .entry)) (now (properties .entry))) (layerIn (now (bundle .entry)) (now (selectors .entry))) (verdictIn (now (bundle .entry)) (now (selectors .entry)) (now (tests .entry)) (now (numbers .entry)) zoom (now (entity .entry)) e) (now (rules .entry)) (now (t .entry)) 0 0 total ⌝ }
+    ensures { λ q. ⌜ bounded q ⌝ }
 {
     let mut r = 0;
     let mut m = 0;

@@ -5,36 +5,9 @@ ghost use Prim.Native.Nat.{_-_, _<_, min};
 ghost use lib.ListN.{take, drop, length};
 ghost use Rattle.cascade.specs.Numbered.{assign};
 ghost use Rattle.decode.specs.Decode.{nameAt, places};
-ghost use Rattle.walk.specs.Rows.{placeOf, assigns};
-use base::Range;
-
-// The name of property p.
-fn name_of<'a>(bundle: &'a [u8], properties: &[u32], p: u32) -> &'a [u8]
-    ensures { λ r. ⌜ now r ≡ nameAt (now (bundle .entry)) (now (properties .entry)) p ⌝ }
-{
-    let i = p as usize;
-    base::part(
-        bundle,
-        Range {
-            from: table::word_of(properties, i, 1),
-            to: table::word_of(properties, i, 2),
-        },
-    )
-}
-
-// The place of a name in a row, or the row's length.
-fn find_name(bundle: &[u8], properties: &[u32], row: &[u32], name: &[u8]) -> usize
-    ensures { λ r. ⌜ r ≡ placeOf (nameAt (now (bundle .entry)) (now (properties .entry))) (now (row .entry)) (now (name .entry)) ⌝ }
-{
-    let mut i = 0;
-    while i < row.len() {
-        if base::same_bytes(name, name_of(bundle, properties, row[i])) {
-            return i;
-        }
-        i += 1;
-    }
-    i
-}
+ghost use Rattle.walk.specs.Rows.{assigns};
+use crate::names::find_name;
+use crate::names::name_of;
 
 // Assigns property p to a row, of which the first `count` entries are in use, and returns the new count.
 fn assign_property(

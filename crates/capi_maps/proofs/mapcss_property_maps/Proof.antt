@@ -5,12 +5,6 @@ use Rattle.capi_maps.proofs.Words.{maps-told}
 use borrow.Author.Needs.{needs}
 use Rattle.capi_maps.proofs.mapcss_property_maps.Statement.{statement}
 use Rattle.capi_maps.proofs.mapcss_property_maps.Tie as tie
-use Rattle.capi_maps.proofs.mapcss_property_maps.Reads as reads
-use Rattle.capi_maps.proofs.mapcss_property_maps.Lts as lts
-use Rattle.capi_maps.proofs.counts_at.Reads as counts-at-reads
-use Rattle.capi_maps.proofs.store_five.Reads as store-five-reads
-use Rattle.capi_maps.proofs.told_maps.Reads as told-maps-reads
-use Rattle.walk.proofs.property_maps.Reads as property-maps-reads
 
 counts-at-requires : tie.Need-counts-at-requires
 counts-at-requires c κs = search needs
@@ -28,7 +22,7 @@ same-length : tie.Need-same-length
 same-length c = search needs
 
 returns : tie.Need-returns
-returns c = let a = c .before .before .before .before .before .before .before .before .before .before .before .before .before .before .before .before .before .args in maps-told (c .before .before .before .before .before .property-maps .ensures ∙ ap (λ n. mapsOf (a .bundle .now) (a .rules .now) (a .selectors .now) (a .tests .now) (a .properties .now) (a .numbers .now) n (a .zoom) (a .entity .now)) (c .before .before .before .before .before .before .before .counts-at .ensures)) (c .before .before .before .before .told-maps .ensures) (c .before .before .store-five .ensures)
+returns c = let a = c .before .before .before .before .before .before .before .before .before .before .before .before .before .before .before .before .before .args in maps-told (c .before .before .before .before .before .property-maps .ensures .0 ∙ ap (λ n. mapsOf (a .bundle .now) (a .rules .now) (a .selectors .now) (a .tests .now) (a .properties .now) (a .numbers .now) n (a .zoom) (a .entity .now)) (c .before .before .before .before .before .before .before .counts-at .ensures)) (c .before .before .before .before .told-maps .ensures) (c .before .before .store-five .ensures)
 
 pub mapcss-property-maps-spec : {M : Type 1} → statement M
 mapcss-property-maps-spec =

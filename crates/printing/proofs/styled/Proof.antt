@@ -79,7 +79,7 @@ returns-2 c =
     (c .before .before .before .before .before .before .before .before .before .before .before .before .before .before
     .before .before .before .n .given .1)
     (c .before .before .before .before .before .five-of .ensures)
-    (c .before .before .before .property-maps .ensures) (c .before .e2 .given .1)
+    (c .before .before .before .property-maps .ensures .0) (c .before .e2 .given .1)
 
 returns-3 : tie.Need-returns-3
 returns-3 c =
@@ -120,7 +120,7 @@ returns-3 c =
     (c .before .before .before .before .before .before .before .before .before .before .before .before .before .before
     .before .before .before .n .given .1)
     (c .before .before .before .before .before .five-of .ensures)
-    (c .before .before .before .property-maps .ensures) (c .before .k .given .1)
+    (c .before .before .before .property-maps .ensures .0) (c .before .k .given .1)
 
 pub styled-spec : {M : Type 1} → statement M
 styled-spec =

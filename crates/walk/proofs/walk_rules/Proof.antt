@@ -46,12 +46,14 @@ same-length c = search needs
 returns : tie.Need-returns Inv-loop μ-loop
 returns c =
     let a = c .before .before .before .before .before .before .before .before .before .before .before .before .before .before .before .before .before .args in
-    let loop = c .before .before .before .before .before .before .before .before .loop in
-    sym
-    (rules-stop _ _ _ (a .rules .now) (loop .t) (loop .m) (loop .r) (a .total)
-    (c .before .before .before .before .before .before .before .loop-test .taken) _ _
-    (c .before .before .before .before .before .walk-rule .ensures .0) _ (c .before .k .given .1))
-    ∙ loop .inv .2
+    let loop = c .before .before .before .before .before .before .before .before .loop in (
+      sym
+          (rules-stop _ _ _ (a .rules .now) (loop .t) (loop .m) (loop .r) (a .total)
+          (c .before .before .before .before .before .before .before .loop-test .taken) _ _
+          (c .before .before .before .before .before .walk-rule .ensures .0) _ (c .before .k .given .1))
+          ∙ loop .inv .2,
+      tt,
+    )
 
 enum-known-k-2 : tie.Need-enum-known-k-2 Inv-loop μ-loop
 enum-known-k-2 c = search needs
@@ -81,8 +83,10 @@ same-length-2 c = search needs
 returns-2 : tie.Need-returns-2 Inv-loop μ-loop
 returns-2 c =
     let a = c .before .before .before .before .before .before .before .before .before .before .args in
-    let loop = c .before .loop in
-    sym (rules-end _ _ _ (a .rules .now) (loop .t) (loop .m) (loop .r) (a .total) (c .loop-test .left)) ∙ loop .inv .2
+    let loop = c .before .loop in (
+      sym (rules-end _ _ _ (a .rules .now) (loop .t) (loop .m) (loop .r) (a .total) (c .loop-test .left)) ∙ loop .inv .2,
+      loop .inv .1,
+    )
 
 pub walk-rules-spec : {M : Type 1} → statement M
 walk-rules-spec =

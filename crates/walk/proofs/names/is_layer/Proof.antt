@@ -1,10 +1,10 @@
--- `walk::layers::is_layer` meets its contract.
+-- `walk::names::is_layer` meets its contract.
 use mathlib.Core.Path.{sym, _∙_, ap}
 use borrow.Author.Needs.{needs}
 use Rattle.base.specs.Bytes.{same}
 use Rattle.walk.proofs.LayerLaws.{default-layer, named-layer}
-use Rattle.walk.proofs.layers.is_layer.Statement.{statement}
-use Rattle.walk.proofs.layers.is_layer.Tie as tie
+use Rattle.walk.proofs.names.is_layer.Statement.{statement}
+use Rattle.walk.proofs.names.is_layer.Tie as tie
 
 word-of-requires : tie.Need-word-of-requires
 word-of-requires c κs = search needs

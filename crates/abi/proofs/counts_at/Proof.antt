@@ -1,11 +1,8 @@
--- `capi_maps::counts_at` meets its contract.
-use Rattle.capi_maps.proofs.Words.{counts-read}
+-- `abi::counts_at` meets its contract.
+use Rattle.abi.proofs.Words.{counts-read}
 use borrow.Author.Needs.{needs}
-use Rattle.capi_maps.proofs.counts_at.Statement.{statement}
-use Rattle.capi_maps.proofs.counts_at.Tie as tie
-use Rattle.capi_maps.proofs.counts_at.Reads as reads
-use Rattle.capi_maps.proofs.counts_at.Lts as lts
-use Rattle.capi_maps.proofs.count_at.Reads as count-at-reads
+use Rattle.abi.proofs.counts_at.Statement.{statement}
+use Rattle.abi.proofs.counts_at.Tie as tie
 
 count-at-requires : tie.Need-count-at-requires
 count-at-requires c κs = search needs

@@ -1,4 +1,4 @@
--- `walk::rows::find_name` meets its contract.
+-- `walk::names::find_name` meets its contract.
 use Prim.Native.Nat.{_≤_, _+_, _-_}
 use native.Mathlib.Omega.{arith}
 use mathlib.Core.Path.{_≡_, sym, _∙_, ap}
@@ -8,8 +8,8 @@ use Rattle.base.specs.Bytes.{same}
 use Rattle.decode.specs.Decode.{nameAt}
 use Rattle.walk.specs.Rows.{placeOf}
 use Rattle.walk.proofs.RowLaws.{place-start, place-found, place-next, place-none}
-use Rattle.walk.proofs.rows.find_name.Statement.{statement}
-use Rattle.walk.proofs.rows.find_name.Tie as tie
+use Rattle.walk.proofs.names.find_name.Statement.{statement}
+use Rattle.walk.proofs.names.find_name.Tie as tie
 
 abbrev Inv-loop : tie.InvT-loop
 Inv-loop bundle properties row name i₀ i =

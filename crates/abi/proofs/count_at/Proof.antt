@@ -1,11 +1,9 @@
--- `capi_maps::count_at` meets its contract.
+-- `abi::count_at` meets its contract.
 use lib.ListN.{List·getD-eq-default}
 use mathlib.Core.Path.{sym}
 use borrow.Author.Needs.{needs}
-use Rattle.capi_maps.proofs.count_at.Statement.{statement}
-use Rattle.capi_maps.proofs.count_at.Tie as tie
-use Rattle.capi_maps.proofs.count_at.Reads as reads
-use Rattle.capi_maps.proofs.count_at.Lts as lts
+use Rattle.abi.proofs.count_at.Statement.{statement}
+use Rattle.abi.proofs.count_at.Tie as tie
 
 mul-result : tie.Need-mul-result
 mul-result c = search needs

@@ -1,12 +1,9 @@
--- `capi_maps::store_five` meets its contract.
+-- `abi::store_five` meets its contract.
 use denote.Ref.{now}
-use Rattle.capi_maps.proofs.Words.{five-stored}
+use Rattle.abi.proofs.Words.{five-stored}
 use borrow.Author.Needs.{needs}
-use Rattle.capi_maps.proofs.store_five.Statement.{statement}
-use Rattle.capi_maps.proofs.store_five.Tie as tie
-use Rattle.capi_maps.proofs.store_five.Reads as reads
-use Rattle.capi_maps.proofs.store_five.Lts as lts
-use Rattle.base.proofs.set_long.Reads as set-long-reads
+use Rattle.abi.proofs.store_five.Statement.{statement}
+use Rattle.abi.proofs.store_five.Tie as tie
 
 set-long-requires : tie.Need-set-long-requires
 set-long-requires c κs = search needs

@@ -1,9 +1,9 @@
--- `walk::rows::name_of` meets its contract.
+-- `walk::names::name_of` meets its contract.
 use mathlib.Core.Path.{_∙_, ap₂}
 use borrow.Author.Needs.{needs}
 use Rattle.base.specs.Bytes.{between}
-use Rattle.walk.proofs.rows.name_of.Statement.{statement}
-use Rattle.walk.proofs.rows.name_of.Tie as tie
+use Rattle.walk.proofs.names.name_of.Statement.{statement}
+use Rattle.walk.proofs.names.name_of.Tie as tie
 
 word-of-requires : tie.Need-word-of-requires
 word-of-requires c κs = search needs
