@@ -1,0 +1,2 @@
+pub mod CanvasLaws
+pub mod Shown
