@@ -1,3 +1,5 @@
 pub mod Sheets
 pub mod Loading
 pub mod Maps
+pub mod Isolation
+pub mod Draws

@@ -1,0 +1,3 @@
+pub mod Style
+pub mod Styles
+pub mod Draws

@@ -1,0 +1,1 @@
+// What style calls answer is the theory's: definitions and theorems alone.
