@@ -43,7 +43,7 @@ fn main() {
     if env::var("CARGO_FEATURE_RATTLE").is_ok() {
         let library = here.join("../target/staticlib");
         println!("cargo:rustc-link-search=native={}", library.display());
-        for name in ["libcapi_token.a", "libcapi.a", "libcapi_maps.a"] {
+        for name in ["libcapi_token.a", "libcapi.a", "libcapi_maps.a", "libcapi_styles.a"] {
             println!("cargo:rerun-if-changed={}", library.join(name).display());
         }
     }
@@ -52,7 +52,12 @@ fn main() {
 fn wrap(here: &Path, source: &Path, module: &Path, name: &str) {
     let source = source.with_extension("rs");
     println!("cargo:rerun-if-changed={}", source.display());
-    let mut text = format!("include!({source:?});\n");
+    // its warnings are made and not printed
+    let mut text = String::new();
+    if name == "styler" {
+        text += "macro_rules! eprintln { ($($part:tt)*) => { { let _ = format_args!($($part)*); } }; }\n";
+    }
+    text += &format!("include!({source:?});\n");
     if PROBED.contains(&name) {
         let probe = here.join("src/probes").join(name).with_extension("rs");
         text += &format!("#[path = {probe:?}]\npub mod probe;\n");

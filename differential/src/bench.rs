@@ -1,5 +1,7 @@
-//! Times both tokenizers, the load beside the original's parser, and property maps, on the same sheets in the same process.
+//! Times both tokenizers, the load beside the original's parser, and property maps, on the same sheets in the same process;
+//! bench_styles.rs has styles and drawing lists.
 
+use crate::bench_styles;
 use crate::bundles;
 use crate::entities::{self, Entity};
 use crate::geodata::reader::probe as reader;
@@ -47,6 +49,7 @@ pub fn bench() -> bool {
     }
     loads();
     property_maps();
+    bench_styles::bench();
     true
 }
 
@@ -137,7 +140,7 @@ fn defining<'a>(rule: &'a Item, definitions: &BTreeMap<String, String>, defined:
 }
 
 /// A sheet of so many of the sheets' rules, taken from all of them.
-fn rules_text(count: usize) -> String {
+pub fn rules_text(count: usize) -> String {
     let (rules, definitions) = sheet_items();
     let mut text = String::new();
     let mut defined = BTreeSet::new();
@@ -149,10 +152,10 @@ fn rules_text(count: usize) -> String {
     text
 }
 
-const ENTITIES: usize = 10_000;
-const MAP_ROUNDS: usize = 10;
+pub const ENTITIES: usize = 10_000;
+pub const MAP_ROUNDS: usize = 10;
 /// An entity seldom has more.
-const MOST_TAGS: usize = 20;
+pub const MOST_TAGS: usize = 20;
 
 /// A row for each sheet: entities a second. The original has its entities and its rules in memory and uses no cache; ours
 /// gets the bytes of an entity and checks them, and the tables, in each call.
@@ -255,18 +258,18 @@ fn items(sheet: &str) -> Vec<Item> {
     all
 }
 
-struct Best {
-    count: usize,
-    seconds: f64,
+pub struct Best {
+    pub count: usize,
+    pub seconds: f64,
 }
 
 impl Best {
-    fn new() -> Best {
+    pub fn new() -> Best {
         Best { count: 0, seconds: f64::INFINITY }
     }
 
     /// What `read` makes is dropped after the clock has stopped.
-    fn round<T: ?Sized, R: Into<Read>>(&mut self, text: &T, mut read: impl FnMut(&T) -> R) {
+    pub fn round<T: ?Sized, R: Into<Read>>(&mut self, text: &T, mut read: impl FnMut(&T) -> R) {
         let start = Instant::now();
         let made = black_box(read(black_box(text)));
         self.seconds = self.seconds.min(start.elapsed().as_secs_f64());
@@ -274,7 +277,7 @@ impl Best {
     }
 }
 
-struct Read(usize);
+pub struct Read(usize);
 
 impl From<usize> for Read {
     fn from(n: usize) -> Read {

@@ -4,6 +4,8 @@ use crate::bundles::put_group;
 
 pub const MOST_BYTES: usize = 65_536;
 pub const MOST_TAGS: u64 = 256;
+/// Bytes of a stream.
+pub const MOST_STREAM: usize = 1_048_576;
 
 #[derive(Clone, Debug, PartialEq)]
 pub struct Entity {
@@ -61,7 +63,8 @@ impl<'a> Bytes<'a> {
     }
 }
 
-fn layout(all: &[u8]) -> Option<Entity> {
+/// The entity at the start of these bytes, and its length.
+fn front(all: &[u8]) -> Option<(Entity, usize)> {
     let mut bytes = Bytes { all, at: 1 };
     let kind = *all.first()?;
     let id = bytes.group(u64::MAX)?;
@@ -74,17 +77,33 @@ fn layout(all: &[u8]) -> Option<Entity> {
         }
         tags.push((key.to_vec(), value.to_vec()));
     }
-    let whole = kind <= 2 && bytes.at == all.len() && all.len() <= MOST_BYTES;
-    whole.then_some(Entity { kind, id, tags })
+    let good = kind <= 2 && bytes.at <= MOST_BYTES;
+    good.then_some((Entity { kind, id, tags }, bytes.at))
 }
 
-/// The entity of these bytes, or 7 or 2.
-pub fn check(all: &[u8]) -> Result<Entity, u64> {
-    let entity = layout(all).ok_or(7u64)?;
+fn utf8(entity: Entity) -> Result<Entity, u64> {
     let utf8 = |part: &[u8]| std::str::from_utf8(part).is_ok();
     if entity.tags.iter().all(|(key, value)| utf8(key) && utf8(value)) {
         Ok(entity)
     } else {
         Err(2)
     }
+}
+
+/// The entity of these bytes, or 7 or 2.
+pub fn check(all: &[u8]) -> Result<Entity, u64> {
+    let (entity, length) = front(all).ok_or(7u64)?;
+    if length < all.len() {
+        return Err(7);
+    }
+    utf8(entity)
+}
+
+/// The entity at the start of a stream, of one of these kinds, and its length; or 7 or 2.
+pub fn first(stream: &[u8], kinds: &[u8]) -> Result<(Entity, usize), u64> {
+    let (entity, length) = front(stream).ok_or(7u64)?;
+    if !kinds.contains(&entity.kind) {
+        return Err(7);
+    }
+    Ok((utf8(entity)?, length))
 }

@@ -119,7 +119,7 @@ fn shown(answer: &Result<Load, Refusal>) -> String {
 }
 
 /// As much of a text as is printed.
-fn cut(text: &str) -> &str {
+pub fn cut(text: &str) -> &str {
     let end = (0..=text.len().min(2000)).rev().find(|&n| text.is_char_boundary(n)).unwrap();
     &text[..end]
 }

@@ -1,11 +1,17 @@
 //! Runs the original and our engine on the same inputs and compares. README.md says how.
 
 mod bench;
+mod bench_styles;
 mod bundles;
 mod cases;
+mod draw_cases;
+mod draw_run;
+mod draws;
 mod entities;
 #[cfg(feature = "rattle")]
 mod ffi;
+#[cfg(feature = "rattle")]
+mod ffi_styles;
 mod load_cases;
 mod load_run;
 mod loads;
@@ -17,7 +23,13 @@ mod plates;
 mod random;
 mod run;
 mod sample;
+mod sample_styles;
 mod sheets;
+mod style_cases;
+mod style_run;
+mod style_tally;
+mod styles;
+mod tally;
 mod tokens;
 
 // The original names these from the crate's root.
@@ -30,10 +42,13 @@ include!(concat!(env!("OUT_DIR"), "/original.rs"));
 use std::path::PathBuf;
 use std::process::ExitCode;
 
-const USAGE: &str = "differential run SEED COUNT [tokens|loads|maps] | sample DIRECTORY SEED COUNT | bench | sheets";
+const USAGE: &str =
+    "differential run SEED COUNT [tokens|loads|maps|styles|draws] | sample DIRECTORY SEED COUNT | bench | sheets";
 
 /// One load for so many texts of the tokenizer's run.
 const TEXTS_A_LOAD: u64 = 10;
+/// And one drawing list.
+const TEXTS_A_LIST: u64 = 5;
 
 fn main() -> ExitCode {
     let args: Vec<String> = std::env::args().skip(1).collect();
@@ -43,11 +58,15 @@ fn main() -> ExitCode {
         ["run", seed, count] => {
             let tokens = run::run(number(seed), number(count));
             let loads = load_run::run(number(seed), number(count) / TEXTS_A_LOAD);
-            map_run::run(number(seed), number(count)) && loads && tokens
+            let maps = map_run::run(number(seed), number(count));
+            let styles = style_run::run(number(seed), number(count));
+            draw_run::run(number(seed), number(count) / TEXTS_A_LIST) && styles && maps && loads && tokens
         }
         ["run", seed, count, "tokens"] => run::run(number(seed), number(count)),
         ["run", seed, count, "loads"] => load_run::run(number(seed), number(count) / TEXTS_A_LOAD),
         ["run", seed, count, "maps"] => map_run::run(number(seed), number(count)),
+        ["run", seed, count, "styles"] => style_run::run(number(seed), number(count)),
+        ["run", seed, count, "draws"] => draw_run::run(number(seed), number(count) / TEXTS_A_LIST),
         ["sample", directory, seed, count] => sample::write(&PathBuf::from(directory), number(seed), number(count)),
         ["bench"] => bench::bench(),
         ["sheets"] => sheets::check(),

@@ -37,11 +37,11 @@ impl Handed {
         }
     }
 
-    fn entry(&self, table: usize, n: usize) -> Entry {
+    pub fn entry(&self, table: usize, n: usize) -> Entry {
         self.words[table][8 * n..8 * n + 8].try_into().unwrap()
     }
 
-    fn entries(&self, table: usize) -> impl Iterator<Item = Entry> + '_ {
+    pub fn entries(&self, table: usize) -> impl Iterator<Item = Entry> + '_ {
         (0..self.counts[table] as usize).map(move |n| self.entry(table, n))
     }
 }
@@ -430,11 +430,15 @@ fn judged(bundle: &[u8], handed: &Handed, zoom: u8, entity: &[u8], tally: &mut T
     if !sound(handed, bundle.len()) {
         return Err(22);
     }
-    let entity = entities::check(entity)?;
+    walk(bundle, handed, zoom, &entities::check(entity)?, tally)
+}
+
+/// The layers of an entity, with sound tables; or 8, 23 or 24.
+pub fn walk(bundle: &[u8], handed: &Handed, zoom: u8, entity: &Entity, tally: &mut Tally) -> Result<Vec<Layer>, u64> {
     tally.kinds[entity.kind as usize] += 1;
     tally.shape(5, entity.tags.is_empty());
     tally.shape(6, entity.tags.len() == 256);
-    Walk { bundle, handed, zoom, entity: &entity, tally }.layers()
+    Walk { bundle, handed, zoom, entity, tally }.layers()
 }
 
 /// What a call must answer.

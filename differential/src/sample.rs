@@ -5,13 +5,14 @@ use crate::cases::{all_short, long_numbers, random_case, EXAMPLES};
 use crate::entities::{self, Entity};
 use crate::load_cases::{random_bundle, ENTRIES};
 use crate::load_run::{examples, model_is_original, random_lent, Files, ALL};
-use crate::loads::{self, stride, Filled, Lent, NUMBERS};
+use crate::loads::{self, stride, Filled, Lent, Refusal, NUMBERS};
 use crate::map_cases::{damaged, layouts, limits, random_entity, NUMBERS_READ};
 use crate::map_run::{self, Sheet};
 use crate::maps::{self, Tally};
 use crate::model;
 use crate::plates;
 use crate::random::Random;
+use crate::sample_styles;
 use crate::sheets;
 use crate::tokens::{self, put, Counts};
 use std::collections::BTreeSet;
@@ -23,17 +24,22 @@ const TEXT_BYTES: usize = 160;
 const BUNDLE_BYTES: usize = 600;
 const ENTITY_BYTES: usize = 600;
 /// What a replay lends at most: entries of a table.
-const ENTRIES_LENT: usize = 512;
+pub const ENTRIES_LENT: usize = 512;
 
 /// Cases in files NAME0, NAME1, ..
 #[derive(Default)]
-struct Pack {
+pub struct Pack {
     files: Vec<Vec<u8>>,
-    cases: u64,
+    pub cases: u64,
 }
 
 impl Pack {
-    fn add(&mut self, case: &[u8]) {
+    /// Whether there is room for a case in so many files.
+    pub fn fits(&self, case: &[u8], files: usize) -> bool {
+        self.files.len() < files || self.files[files - 1].len() + case.len() <= FILE_BYTES
+    }
+
+    pub fn add(&mut self, case: &[u8]) {
         if self.files.last().is_none_or(|file| file.len() + case.len() > FILE_BYTES) {
             self.files.push(Vec::new());
         }
@@ -41,7 +47,7 @@ impl Pack {
         self.cases += 1;
     }
 
-    fn write(&self, directory: &Path, name: &str) {
+    pub fn write(&self, directory: &Path, name: &str) {
         fs::create_dir_all(directory).unwrap();
         let path = |number: usize| directory.join(format!("{name}{number}"));
         // what an earlier, larger sample left
@@ -71,13 +77,13 @@ impl Sample {
     }
 }
 
-fn put_part(out: &mut Vec<u8>, part: &[u8]) {
+pub fn put_part(out: &mut Vec<u8>, part: &[u8]) {
     put(out, part.len());
     out.extend(part);
 }
 
 /// The examples, long numbers, all texts of up to 2 characters and `count` random ones of the seed; and a tenth as many
-/// random loads, property maps and inputs of plate, behind those that are written down.
+/// random loads, property maps, inputs of plate, styles and drawing lists, behind those that are written down.
 pub fn write(directory: &Path, seed: u64, count: u64) -> bool {
     let mut sample = Sample::default();
     EXAMPLES.iter().for_each(|text| sample.text(text));
@@ -90,7 +96,8 @@ pub fn write(directory: &Path, seed: u64, count: u64) -> bool {
     let tokens_met = sample.counts.print();
     let loads_met = write_loads(directory, seed, count / 10);
     write_maps(directory, seed, count / 10);
-    write_plates(directory, seed, count / 10) && loads_met && tokens_met
+    let plates_met = write_plates(directory, seed, count / 10);
+    sample_styles::write(directory, seed, count / 10) && plates_met && loads_met && tokens_met
 }
 
 struct LoadSample {
@@ -119,15 +126,19 @@ impl LoadSample {
     }
 }
 
+/// A refusal in a sample.
+pub fn refused([number, reason, text, line, character]: &Refusal) -> Vec<u8> {
+    let mut out = [number, reason, text].map(|&n| u8::try_from(n).unwrap()).to_vec();
+    put(&mut out, *line as usize);
+    put(&mut out, *character as usize);
+    out
+}
+
 /// A load's answer in a sample; README.md has the format.
 fn answer(filled: &Filled) -> Vec<u8> {
     let mut out = Vec::new();
     match filled {
-        Err([number, reason, text, line, character]) => {
-            out.extend([number, reason, text].map(|&n| u8::try_from(n).unwrap()));
-            put(&mut out, *line as usize);
-            put(&mut out, *character as usize);
-        }
+        Err(refusal) => out = refused(refusal),
         Ok(tables) => {
             out.push(0);
             tables.counts().iter().for_each(|&n| put(&mut out, n));
@@ -209,7 +220,7 @@ impl MapSample {
 fn map_answer(answer: &maps::Answer) -> Vec<u8> {
     let layers = match answer {
         Ok(layers) => layers,
-        Err(refusal) => return self::answer(&Err(*refusal)),
+        Err(refusal) => return refused(refusal),
     };
     let mut out = vec![0, layers.len() as u8];
     for layer in layers {

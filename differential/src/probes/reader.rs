@@ -2,6 +2,7 @@
 
 use super::*;
 use crate::entities::Entity;
+use std::collections::HashMap;
 
 pub enum Found<'a> {
     Node(Node<'a>),
@@ -9,22 +10,34 @@ pub enum Found<'a> {
     Multipolygon(Multipolygon<'a>),
 }
 
-/// Where an entity stands among those of its storage. A closed entity is a way or, if its id is odd, a multipolygon.
+/// What is handed to a drawing list.
+pub enum Streams<'a> {
+    Nodes(Vec<Node<'a>>),
+    Areas(Vec<Way<'a>>, Vec<Multipolygon<'a>>),
+}
+
+/// Where an entity stands among those of its storage.
 enum Place {
     Node(usize),
     Way(usize),
     Multipolygon(usize),
 }
 
-fn places(all: &[Entity]) -> Vec<Place> {
+/// A closed entity is a way or, if its id is odd, a multipolygon.
+fn by_id(entity: &Entity) -> bool {
+    entity.kind == 2 && entity.id % 2 == 1
+}
+
+/// The places of these entities, each with whether it is a multipolygon.
+fn places<'e>(all: impl Iterator<Item = (&'e Entity, bool)>) -> Vec<Place> {
     // the first two nodes are corners
     let (mut nodes, mut ways, mut multipolygons) = (2.., 0.., 0..);
-    let mut place = |entity: &Entity| match entity.kind {
+    let mut place = |(entity, multipolygon): (&Entity, bool)| match entity.kind {
         0 => Place::Node(nodes.next().unwrap()),
-        2 if entity.id % 2 == 1 => Place::Multipolygon(multipolygons.next().unwrap()),
+        _ if multipolygon => Place::Multipolygon(multipolygons.next().unwrap()),
         _ => Place::Way(ways.next().unwrap()),
     };
-    all.iter().map(&mut place).collect()
+    all.map(&mut place).collect()
 }
 
 #[derive(Default)]
@@ -34,6 +47,8 @@ struct File {
     multipolygons: Vec<u8>,
     ints: Vec<u32>,
     strings: Vec<u8>,
+    /// Places of strings that equal ones share.
+    shared: Option<HashMap<Vec<u8>, u32>>,
 }
 
 fn put_ref(out: &mut Vec<u8>, from: usize, length: usize) {
@@ -42,9 +57,17 @@ fn put_ref(out: &mut Vec<u8>, from: usize, length: usize) {
 }
 
 impl File {
+    /// A byte behind each, so that an empty one has its own place, too.
     fn string(&mut self, part: &[u8]) -> [u32; 2] {
-        let from = self.strings.len() as u32;
-        self.strings.extend(part);
+        let fresh = self.strings.len() as u32;
+        let from = match &mut self.shared {
+            Some(places) => *places.entry(part.to_vec()).or_insert(fresh),
+            None => fresh,
+        };
+        if from == fresh {
+            self.strings.extend(part);
+            self.strings.push(0);
+        }
         [from, part.len() as u32]
     }
 
@@ -101,15 +124,18 @@ impl File {
 }
 
 /// The reader of these entities, over memory that it holds, as `load` makes one over a file.
-pub fn reader(all: &[Entity]) -> GeodataReader<'static> {
-    let mut file = File::default();
+fn laid_out<'e>(
+    all: impl Iterator<Item = (&'e Entity, bool)> + Clone,
+    shared: Option<HashMap<Vec<u8>, u32>>,
+) -> GeodataReader<'static> {
+    let mut file = File { shared, ..File::default() };
     for corner in [0.0f64, 1.0] {
         file.nodes.extend(0u64.to_le_bytes());
         file.nodes.extend(corner.to_le_bytes());
         file.nodes.extend(corner.to_le_bytes());
         put_ref(&mut file.nodes, 0, 0);
     }
-    for (entity, place) in all.iter().zip(places(all)) {
+    for ((entity, _), place) in all.clone().zip(places(all)) {
         file.add(entity, &place);
     }
     let bytes = file.bytes();
@@ -121,6 +147,11 @@ pub fn reader(all: &[Entity]) -> GeodataReader<'static> {
     GeodataReader { storages, _mmap: memory }
 }
 
+/// Each of these entities alone, a closed one as a way or as a multipolygon by its id.
+pub fn reader(all: &[Entity]) -> GeodataReader<'static> {
+    laid_out(all.iter().map(|entity| (entity, by_id(entity))), None)
+}
+
 /// The entities as the original has them, in order.
 pub fn entities<'a>(reader: &'a GeodataReader<'a>, all: &[Entity]) -> Vec<Found<'a>> {
     let found = |place| match place {
@@ -128,5 +159,23 @@ pub fn entities<'a>(reader: &'a GeodataReader<'a>, all: &[Entity]) -> Vec<Found<
         Place::Way(n) => Found::Way(reader.get_way(n)),
         Place::Multipolygon(n) => Found::Multipolygon(reader.get_multipolygon(n)),
     };
-    places(all).into_iter().map(found).collect()
+    places(all.iter().map(|entity| (entity, by_id(entity)))).into_iter().map(found).collect()
+}
+
+/// The reader of one stream of nodes, or of ways and multipolygons. The original's cache tells strings apart by their
+/// places: either equal ones share one, as in its files, or each has its own.
+pub fn stream_reader(streams: &[Vec<Entity>], shared: bool) -> GeodataReader<'static> {
+    let all = streams.iter().enumerate().flat_map(|(n, all)| all.iter().map(move |entity| (entity, n == 1)));
+    laid_out(all, shared.then(HashMap::new))
+}
+
+pub fn streams<'a>(reader: &'a GeodataReader<'a>, streams: &[Vec<Entity>]) -> Streams<'a> {
+    match streams {
+        [nodes] => Streams::Nodes((0..nodes.len()).map(|n| reader.get_node(2 + n)).collect()),
+        [ways, multipolygons] => Streams::Areas(
+            (0..ways.len()).map(|n| reader.get_way(n)).collect(),
+            (0..multipolygons.len()).map(|n| reader.get_multipolygon(n)).collect(),
+        ),
+        _ => unreachable!("one stream or two"),
+    }
 }
