@@ -1,23 +1,16 @@
 -- Laws of the two lists, one for each way through the code, over plain lists and numbers.
-use Prim.Native.Nat.{ℕ, suc, _+_, _≤_}
-use mathlib.Core.Path.{_≡_, refl, sym, _∙_, ap, ap₂, subst}
+use Prim.Native.Nat.{ℕ, _+_}
+use mathlib.Core.Path.{_≡_, refl, sym, _∙_, ap, ap₂}
 use mathlib.Core.Bool.{Bool, true, false, not}
 use mathlib.Core.List.{List, [], _++_}
 use native.Mathlib.Omega.{arith}
-use lib.Dec.{ltb}
 use lib.Ieee.{Float}
 use lib.ListN.{length, take, drop, replicate, length-append, take-append-drop}
 use Rattle.base.specs.Bytes.{Bytes}
-use Rattle.base.specs.Choice.{pick, pick-split}
+use Rattle.base.specs.Choice.{pick}
 use Rattle.base.specs.Refusal.{refusal}
 use Rattle.base.specs.Table.{padded}
-use Rattle.base.specs.Turns.{Turn, more, done}
 use Rattle.base.specs.declared.refusal.Refusal.{Refusal}
-use Rattle.base.proofs.Loops.{Kept, turns-keep}
-use Rattle.entity.specs.Elim.{on-NextEntity}
-use Rattle.entity.specs.declared.EntityRange.{EntityRange}
-use Rattle.entity.specs.declared.NextEntity.{NextEntity}
-use Rattle.entity.specs.declared.NextEntity.the-variants.{BadNext, NoMore, Next}
 use Rattle.entity.specs.declared.Sort.{Sort}
 use Rattle.entity.specs.declared.Sort.the-variants.{Nodes, Areas}
 use Rattle.valid.specs.Valid.{tablesSound}
@@ -25,7 +18,7 @@ use Rattle.valid.specs.declared.Counts.{Counts}
 use Rattle.cascade.specs.Sort.{sort}
 use Rattle.style.specs.declared.Settings.{Settings}
 use Rattle.order.specs.Keys.{Key, keyLe}
-use Rattle.drawing.specs.Gather.{Gathered, stopped, gathered, on-Gathered, push, Spot, gatherTurn, gatherOf}
+use Rattle.drawing.specs.Gather.{Gathered, stopped, gathered, on-Gathered, gatherOf}
 use Rattle.drawing.specs.Lists.{roomOf, entriesOf, listed, ordered, nodesOf, areasOf}
 use Rattle.drawing.specs.declared.DrawList.{DrawList}
 use Rattle.drawing.specs.declared.DrawList.the-variants.{NoList, Listed}
@@ -42,67 +35,6 @@ was-true false h = sym h
 -- a list of zeros, of so many words
 pub zeros : (len : ℕ) (z : List ℕ) → z ≡ replicate len 0 → length z ≡ len → z ≡ replicate (length z) 0
 zeros len z e h = e ∙ sym (ap (λ n. replicate n 0) h)
-
--- ---- a stream only adds keys
-
-abbrev Grown : ℕ → Gathered → Type 0
-Grown n (stopped r) = Unit {0}
-Grown n (gathered ks) = n ≤ length ks
-
-push-grown : (n room : ℕ) (ks : List Key) (g : Gathered) → n ≤ length ks → Grown n (push room ks g)
-unfolding push
-push-grown n room ks (stopped r) h = tt
-push-grown n room ks (gathered xs) h =
-    pick-split (Grown n) (ltb room (length ks + length xs)) (stopped (refusal 25 0 0 0 0)) (gathered (ks ++ xs))
-    (λ e. tt) (λ e. omega (arith, length-append ks xs))
-
-module _ (n : ℕ) where
-  abbrev Behind : Spot → Type 0
-  Behind x = n ≤ length (x .keys)
-
-  kept-pushed :
-      (g : Gathered) (at place : ℕ)
-      → Grown n g
-      → Kept Behind (Grown n) (on-Gathered g (λ r. done (stopped r)) (λ ks. more (record { at = at; place = place; keys = ks })))
-  unfolding on-Gathered
-  kept-pushed (stopped r) at place h = tt
-  kept-pushed (gathered ks) at place h = h
-
-  kept-next :
-      (y : NextEntity) (ks : List Key) (k : EntityRange → Turn Spot Gathered)
-      → n ≤ length ks
-      → ((e : EntityRange) → Kept Behind (Grown n) (k e))
-      → Kept Behind (Grown n) (on-NextEntity y (λ r. done (stopped r)) (done (gathered ks)) k)
-  unfolding on-NextEntity
-  kept-next (BadNext r) ks k h f = tt
-  kept-next NoMore ks k h f = h
-  kept-next (Next e) ks k h f = f e
-
-module _
-    (bundle : Bytes) (rules selectors tests properties : List ℕ) (numbers : List Float) (total zoom : ℕ) (forLabels : Bool)
-    (room : ℕ) (sort : Sort) (multipolygons : Bool) (s : Bytes) (sofar : List Key) where
-  grown :
-      Grown (length sofar) (gatherOf bundle rules selectors tests properties numbers total zoom forLabels room sort multipolygons s sofar)
-  unfolding gatherOf gatherTurn
-  grown =
-      turns-keep (Behind (length sofar)) (Grown (length sofar))
-      (gatherTurn bundle rules selectors tests properties numbers total zoom forLabels room sort multipolygons s)
-      (gathered sofar) (omega arith)
-      (λ x h.
-      kept-next (length sofar) _ (x .keys) _ h
-      λ e. kept-pushed (length sofar) _ (e .end) (x .place + 1) (push-grown (length sofar) room (x .keys) _ h))
-      (suc (length s)) (record { at = 0; place = 0; keys = sofar }) (omega arith)
-
-  pub gather-grows :
-      (g : Gathered) (ks : List Key) (m k : ℕ)
-      → g ≡ gatherOf bundle rules selectors tests properties numbers total zoom forLabels room sort multipolygons s sofar
-      → g ≡ gathered ks
-      → length sofar ≡ m
-      → length ks ≡ k
-      → m ≤ k
-  gather-grows g ks m k e q x y =
-      let h : length sofar ≤ length ks = subst (Grown (length sofar)) (sym e ∙ q) grown in
-      omega arith
 
 -- ---- the answer and the list
 

@@ -6,7 +6,8 @@ use borrow.Author.Needs.{needs}
 use Rattle.drawing.specs.Gather.{bounded}
 use Rattle.drawing.proofs.ListLaws.{made-none, made-length, room-bound, room-fits}
 use Rattle.drawing.proofs.GatherLaws.{told-stopped, told-now}
-use Rattle.drawing.proofs.DrawLaws.{zeros, gather-grows, areas-broken, ways-refused, areas-refused, areas-listed}
+use Rattle.drawing.proofs.DrawLaws.{zeros, areas-broken, ways-refused, areas-refused, areas-listed}
+use Rattle.drawing.proofs.StreamLaws.{gather-grows}
 use Rattle.drawing.proofs.style_areas.Statement.{statement}
 use Rattle.drawing.proofs.style_areas.Tie as tie
 
