@@ -1,3 +1,4 @@
 pub mod Cases
 pub mod Productions
 pub mod Meetings
+pub mod Reach
