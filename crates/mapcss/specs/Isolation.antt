@@ -127,10 +127,10 @@ LengthsAlike =
     → x .bundle ≡ y .bundle
     → x .entity ≡ y .entity
     → (mapsAnswered (x .bundle) (x .counts) (x .tables) (maps zoom x) ≡ mapsAnswered (y .bundle) (y .counts) (y .tables) (maps zoom y))
-    × ((s q : Settings)
-    → settingsShown s ≡ settingsShown q
+    × ((s r : Settings)
+    → settingsShown s ≡ settingsShown r
     → stylesAnswered (x .bundle) (x .counts) (x .tables) (styles zoom s x)
-    ≡ stylesAnswered (y .bundle) (y .counts) (y .tables) (styles zoom q y))
+    ≡ stylesAnswered (y .bundle) (y .counts) (y .tables) (styles zoom r y))
 
 -- Ids and tags that no rule tests change nothing: entities of one kind that agree in each tag that the sheet's rules test get the same
 -- layers, or the same refusal, and, where their tags `layer` are read alike, the same styles.
@@ -141,7 +141,7 @@ IdsAlike =
     → Agree (entityOf x) (entityOf y) (rulesOf x)
     → (mapsAnswered (x .bundle) (x .counts) (x .tables) (maps zoom x) ≡ mapsAnswered (y .bundle) (y .counts) (y .tables) (maps zoom y))
     × (layerTag (entityOf x) ≡ layerTag (entityOf y)
-    → (s q : Settings)
-    → settingsShown s ≡ settingsShown q
+    → (s r : Settings)
+    → settingsShown s ≡ settingsShown r
     → stylesAnswered (x .bundle) (x .counts) (x .tables) (styles zoom s x)
-    ≡ stylesAnswered (y .bundle) (y .counts) (y .tables) (styles zoom q y))
+    ≡ stylesAnswered (y .bundle) (y .counts) (y .tables) (styles zoom r y))
