@@ -22,7 +22,7 @@ use Rattle.cascade.specs.Map.{orElse}
 use Rattle.cascade.specs.Clause.{Clause, clause, clauses}
 use Rattle.cascade.specs.Style.{namedColor}
 use Rattle.cascade.specs.Canvas.{canvasProperty, isCanvas, colorValue, firstColor as firstOf, canvasFrom}
-use Rattle.input.specs.Lent.{Lent, lent}
+use Rattle.keep.specs.Lent.{Lent, lent}
 use Rattle.decode.specs.Decode.{places, placesIn, typeAt, selectorAt, valueOf, propertyAt, ruleAt, rulesAt}
 use Rattle.style.specs.declared.StyleType.{StyleType}
 use Rattle.style.specs.declared.StyleType.the-variants.{Josm, MapsMe}

@@ -11,8 +11,8 @@ use Rattle.cascade.specs.Style.{StyleType as StyleType′, josm, mapsMe, namedC
 use Rattle.cascade.specs.Canvas.{canvasFillColor}
 use Rattle.valid.specs.Valid.{tablesSound}
 use Rattle.valid.specs.declared.Counts.{Counts}
-use Rattle.input.specs.Lent.{lent}
-use Rattle.input.specs.declared.Tally.{Tally}
+use Rattle.keep.specs.Lent.{lent}
+use Rattle.keep.specs.declared.Tally.{Tally}
 use Rattle.decode.specs.Decode.{rulesAt}
 use Rattle.style.specs.declared.StyleType.{StyleType}
 use Rattle.style.specs.declared.StyleType.the-variants.{Josm, MapsMe}

@@ -1,4 +1,4 @@
--- Small sheets: the worked example of document 01, marked cases of matching, and 8 where a test is reached.
+-- Small sheets: the worked example of the paper, marked cases of matching, and 8 where a test is reached.
 use Prim.Native.Nat.{ℕ}
 use mathlib.Core.Path.{_≡_, refl}
 use mathlib.Core.List.{List, [], _∷_, map}

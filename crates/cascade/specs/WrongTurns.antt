@@ -1,4 +1,4 @@
--- Document 01's wrong turns, each on a small sheet: what such an engine would answer is not the meaning of the sheet.
+-- Wrong turns of a cascade that the paper names, each on a small sheet: what such an engine would answer is not the meaning of the sheet.
 use Prim.Native.Nat.{ℕ}
 use native.Mathlib.Omega.{arith}
 use mathlib.Core.Path.{_≡_, refl, ap}

@@ -8,9 +8,9 @@ use lib.ListN.{length, getD, take, drop, length-drop, List·getD-append}
 use lib.Seq.{take-at, drop-append-le}
 use Rattle.base.specs.Table.{zeroFloat}
 use Rattle.grammar.specs.Input.{Entry, ruleEntry, selectorEntry, testEntry, propertyEntry, numberEntry, colorEntry}
-use Rattle.input.specs.Encode.{Rows, addRow}
-use Rattle.input.specs.Lent.{Lent}
-use Rattle.input.proofs.Rows.{Even}
+use Rattle.keep.specs.Encode.{Rows, addRow}
+use Rattle.keep.specs.Lent.{Lent}
+use Rattle.keep.proofs.Rows.{Even}
 use Rattle.sound.proofs.Checked.{Row, row-there}
 
 module _ {A : Type 0} where

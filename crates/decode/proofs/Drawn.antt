@@ -13,9 +13,9 @@ use Rattle.grammar.specs.Reading.{plain, digits, Test, unary, text, numeric, Va
 use Rattle.grammar.specs.Accepted.{Reads}
 use Rattle.grammar.specs.Input.{Store}
 use Rattle.grammar.specs.Grammar.{IsName, single, double, IsKey, named, quotedKey, quotedDouble, plainOperand, digitsOperand, IsTest, there, trueTag, falseTag, missing, untrue, compared, measured, IsValue, oneWord, twoWords, aString, aColor, reference, list, eval, IsProperties, closed, assign, HasParts, nothing, zooms, tested, class, layer, IsSelector, typed, IsRule, body, auxiliary, lastSelector, selectorThen, IsSheet, finish, aRule, defined, dropped, imported}
-use Rattle.input.specs.Lent.{nameShown, Small}
+use Rattle.keep.specs.Lent.{nameShown}
+use Rattle.input.specs.Text.{Small, rangeOf}
 use Rattle.input.specs.Source.{Spot, inputOf}
-use Rattle.input.specs.Text.{rangeOf}
 use Rattle.input.proofs.Genuine.{Genuine}
 use Rattle.sound.specs.Lies.{Each, none-left, and-then, Span, Lies}
 use Rattle.sound.proofs.Drawn.{each-left, each-right, each-append, each-head, each-tail, SmallAll, define-small, named-small, after-append, All, given-hold}

@@ -21,7 +21,8 @@ use Rattle.table.specs.declared.Name.the-variants.{Plain, Joined}
 use Rattle.table.specs.declared.PropertyValue.the-variants.{Identifier, Text, Shade, Numbers, WidthDelta}
 use Rattle.grammar.specs.Token.{Name as Name′}
 use Rattle.grammar.specs.Rules.{layerOf}
-use Rattle.input.specs.Lent.{range, typeNumber, levelIn, layerIn, unaryKind, wordKind, digitsKind, numericKind, Small}
+use Rattle.keep.specs.Lent.{range, typeNumber, levelIn, layerIn, unaryKind, wordKind, digitsKind, numericKind}
+use Rattle.input.specs.Text.{Small}
 use Rattle.sound.proofs.Checked.{Row}
 use Rattle.sound.specs.Lies.{Span, Lies}
 use Rattle.decode.specs.Decode.{places, levelAt, typeAt, keyAt, testAt, layerAt}

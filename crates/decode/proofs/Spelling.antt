@@ -23,12 +23,11 @@ use Rattle.grammar.specs.Token.{Name as Name′}
 use Rattle.grammar.specs.Reading.{plain, digits, Test, unary, text, numeric, Value, word as wordValue, quoted, colored, numbers, widthDelta, Selector, Property, Rule, property, ruleItem, colorItem, Reading, rulesOf}
 use Rattle.grammar.specs.Input.{Entry, ruleEntry, selectorEntry, testEntry, propertyEntry, numberEntry}
 use Rattle.grammar.specs.Entries.{testEntries, testsEntries, numbersEntries, valueEntries, propertiesEntries, selectorsEntries, ruleEntries, entriesOf}
-use Rattle.grammar.specs.Rules.{testOf, selectorOf, propertyOf, ruleOf, rulesOfReading}
-use Rattle.grammar.specs.Rules.{valueOf as valueOf′}
-use Rattle.input.specs.Encode.{Rows, noRows, addRow, addRows}
-use Rattle.input.specs.Lent.{Lent, range, nameShown, valueShown, wordRow, valueRow, freshNumbers}
+use Rattle.grammar.specs.Rules.{testOf, selectorOf, propertyOf, ruleOf, rulesOfReading, valueOf as valueOf′}
+use Rattle.keep.specs.Encode.{Rows, noRows, addRow, addRows}
+use Rattle.keep.specs.Lent.{Lent, range, nameShown, valueShown, wordRow, valueRow, freshNumbers}
 use Rattle.input.specs.Text.{rangeOf}
-use Rattle.input.proofs.Rows.{Even, even-row, rows-append}
+use Rattle.keep.proofs.Rows.{Even, even-row, rows-append}
 use Rattle.sound.specs.Lies.{Each, none-left, and-then, Span, Lies}
 use Rattle.decode.specs.Decode.{places, placesIn, levelAt, typeAt, testAt, selectorAt, valueOf, propertyAt, ruleAt}
 use Rattle.decode.proofs.Drawn.{bytesAt, DrawnOnce, TestDrawn, LayerDrawn, SelectorDrawn, ValueDrawn, PropertyDrawn, RuleDrawn, ItemDrawn}

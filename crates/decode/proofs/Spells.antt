@@ -12,10 +12,10 @@ use Rattle.grammar.specs.CapacityLaws.{reading-takes}
 use Rattle.grammar.specs.Entries.{entriesOf}
 use Rattle.grammar.specs.Reading.{Reading}
 use Rattle.grammar.specs.Rules.{rulesOfReading}
-use Rattle.input.specs.Encode.{Lengths, capacities, addRows, rowsOf, lentOf}
-use Rattle.input.specs.Lent.{lentStore}
-use Rattle.input.proofs.Loaded.{loaded-accepted}
-use Rattle.input.proofs.Rows.{rows-counted, rows-all}
+use Rattle.keep.specs.Encode.{Lengths, capacities, addRows, rowsOf, lentOf}
+use Rattle.keep.specs.Lent.{lentStore}
+use Rattle.keep.proofs.Loaded.{loaded-accepted}
+use Rattle.keep.proofs.Rows.{rows-counted, rows-all}
 use Rattle.sound.specs.Lies.{Each}
 use Rattle.sound.proofs.Passing.{few}
 use Rattle.decode.specs.Decode.{rulesAt}

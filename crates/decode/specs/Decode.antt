@@ -16,7 +16,7 @@ use Rattle.table.specs.Value.{wordAt, rangeAt, valueAt}
 use Rattle.table.specs.declared.Name.the-variants.{Plain, Joined}
 use Rattle.table.specs.declared.PropertyValue.{PropertyValue}
 use Rattle.table.specs.declared.PropertyValue.the-variants.{NoValue, Identifier, Text, Shade, Numbers, WidthDelta}
-use Rattle.input.specs.Lent.{Lent}
+use Rattle.keep.specs.Lent.{Lent}
 
 -- the places of a range
 unfoldable pub places : ℕ → ℕ → List ℕ

@@ -9,9 +9,10 @@ use Rattle.grammar.specs.Input.{read}
 use Rattle.grammar.specs.Reader.{load}
 use Rattle.grammar.specs.Reading.{Reading}
 use Rattle.grammar.specs.Rules.{rulesOfReading}
-use Rattle.input.specs.Encode.{Lengths, lentOf}
-use Rattle.input.specs.Lent.{Lent}
-use Rattle.input.specs.Source.{Spot, reading}
+use Rattle.keep.specs.Encode.{Lengths, lentOf}
+use Rattle.keep.specs.Lent.{Lent}
+use Rattle.keep.specs.Source.{reading}
+use Rattle.input.specs.Source.{Spot}
 use Rattle.decode.specs.Decode.{rulesAt}
 
 -- of whatever a load of a bundle's text into zeroed tables accepts

@@ -4,8 +4,8 @@ ghost use mathlib.Core.Path.{_≡_};
 ghost use Prim.Native.Nat.{_+_, _≤_, _<_};
 ghost use lib.ListN.{length};
 use capi::mapcss_load;
-use capi_styles::mapcss_style_areas;
-use capi_styles::mapcss_style_entities;
+use capi::mapcss_style_areas;
+use capi::mapcss_style_entities;
 use libc::STDIN_FILENO;
 use libc::STDOUT_FILENO;
 

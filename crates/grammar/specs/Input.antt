@@ -43,7 +43,7 @@ tableOf (propertyEntry p) = 4
 tableOf (numberEntry x) = 5
 tableOf (colorEntry n c) = 6
 
--- number and reason of the refusal, as document 01 has them
+-- number and reason of the refusal, as the paper has them
 abbrev pub numberOf : Reason → ℕ × ℕ
 numberOf endOfFile = (4, 1)
 numberOf objectType = (4, 2)

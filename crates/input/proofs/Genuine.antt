@@ -22,9 +22,8 @@ use Rattle.token_laws.proofs.Shades.{colors-small}
 use Rattle.grammar.specs.Alike.{NamesGenuine, ColorsSmall, TokensGenuine}
 use Rattle.grammar.specs.Input.{broken, end, token, Store}
 use Rattle.grammar.specs.Token.{Name as Name′, Token as Token′, import, identifier, string, colorRef, number, zoomRange, color, sign}
-use Rattle.input.specs.Lent.{Small}
+use Rattle.input.specs.Text.{Small, shifted, placed, textOf, nextOf, tokenOf, nameIn, rangeOf, place}
 use Rattle.input.specs.Source.{Spot, spot, nextAt, inputOf}
-use Rattle.input.specs.Text.{shifted, placed, textOf, nextOf, tokenOf, nameIn, rangeOf, place}
 use Rattle.input.specs.declared.Place.{Place}
 use Rattle.input.specs.declared.Source.{Source}
 use Rattle.input.proofs.TokenLaws.{by-token}

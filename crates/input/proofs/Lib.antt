@@ -1,10 +1,5 @@
 pub mod TokenLaws
 pub mod Placing
-pub mod KeepLaws
 pub mod Fuel
 pub mod Genuine
 pub mod Readers
-pub mod Rows
-pub mod Tints
-pub mod Standing
-pub mod Loaded

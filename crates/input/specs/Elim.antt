@@ -1,26 +1,20 @@
 -- Eliminators of the answers of input, with their laws.
 use mathlib.Core.Path.{_≡_, sym, ap, _∙_}
-use Prim.Native.Nat.{ℕ}
 use lib.Ieee.{Float}
 use Rattle.input.specs.declared.Figure.{Figure}
 use Rattle.input.specs.declared.Key.{Key}
 use Rattle.input.specs.declared.Mandatory.{Mandatory}
 use Rattle.input.specs.declared.Past.{Past}
 use Rattle.input.specs.declared.Place.{Place}
-use Rattle.input.specs.declared.Room.{Room}
-use Rattle.input.specs.declared.Tally.{Tally}
 use Rattle.input.specs.declared.Word.{Word}
 use Rattle.input.specs.declared.Mandatory.the-variants.{NoToken, Got}
 use Rattle.input.specs.declared.Past.the-variants.{Another, Beyond}
 use Rattle.input.specs.declared.Word.the-variants.{NoWord, IsWord}
 use Rattle.input.specs.declared.Key.the-variants.{NoKey, IsKey}
 use Rattle.input.specs.declared.Figure.the-variants.{NoFigure, IsFigure}
-use Rattle.input.specs.declared.Room.the-variants.{NoRoom, Stored}
 use Rattle.cursor.specs.declared.Cursor.{Cursor}
 use Rattle.table.specs.declared.Name.{Name}
-use Rattle.table.specs.declared.PropertyValue.{PropertyValue}
 use Rattle.base.specs.declared.Range.{Range}
--- missing: Refusal
 use Rattle.token.specs.declared.Token.{Token}
 use Rattle.base.specs.declared.refusal.Refusal.{Refusal}
 
@@ -83,18 +77,3 @@ Figure-NoFigure x k0 k1 e h = h ∙ sym (ap (λ x. on-Figure x k0 k1) e)
 pub Figure-IsFigure : {B : Type 0} (x : Figure) (k0 : Refusal → B) (k1 : Float → Cursor → B) {x0 : Float} {x1 : Cursor} {y : B} → x ≡ IsFigure x0 x1 → y ≡ k1 x0 x1 → y ≡ on-Figure x k0 k1
 unfolding on-Figure
 Figure-IsFigure x k0 k1 e h = h ∙ sym (ap (λ x. on-Figure x k0 k1) e)
-
-unfoldable pub on-Room : {B : Type 0} → Room → B → (Tally → B) → B
-on-Room NoRoom k0 k1 = k0
-on-Room (Stored x0) k0 k1 = k1 x0
-
-unfoldable pub with-Room : {T B : Type 0} → Room × T → (T → B) → (Tally → T → B) → B
-with-Room x k0 k1 = on-Room (x .0) (k0 (x .1)) (λ x0. k1 x0 (x .1))
-
-pub Room-NoRoom-with : {T B : Type 0} (x : Room × T) (k0 : T → B) (k1 : Tally → T → B) {u : T} {y : B} → x ≡ (NoRoom, u) → y ≡ k0 u → y ≡ with-Room x k0 k1
-unfolding on-Room with-Room
-Room-NoRoom-with x k0 k1 e h = h ∙ sym (ap (λ x. with-Room x k0 k1) e)
-
-pub Room-Stored-with : {T B : Type 0} (x : Room × T) (k0 : T → B) (k1 : Tally → T → B) {x0 : Tally} {u : T} {y : B} → x ≡ (Stored x0, u) → y ≡ k1 x0 u → y ≡ with-Room x k0 k1
-unfolding on-Room with-Room
-Room-Stored-with x k0 k1 e h = h ∙ sym (ap (λ x. with-Room x k0 k1) e)

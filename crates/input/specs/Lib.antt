@@ -1,5 +1,3 @@
 pub mod Elim
 pub mod Text
-pub mod Lent
 pub mod Source
-pub mod Encode

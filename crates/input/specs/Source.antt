@@ -1,4 +1,4 @@
--- A bundle and the lent tables, as what the grammar's reader reads from and stores into.
+-- A bundle as what the grammar's reader reads from, over any tables.
 use Prim.Native.Nat.{ℕ, suc}
 use mathlib.Core.Option.{none, some}
 use Rattle.base.specs.Bytes.{Bytes}
@@ -12,7 +12,6 @@ use Rattle.cursor.specs.declared.Cursor.{Cursor}
 use Rattle.token.specs.Elim.{on-Step}
 use Rattle.sheet.specs.Digits.{isWhole}
 use Rattle.grammar.specs.Input.{Next, broken, end, token, Store, Input, numberOf}
-use Rattle.input.specs.Lent.{Lent, lentStore}
 use Rattle.input.specs.Text.{nextOf, tokenOf, place, reachedAt, refusalAt, left}
 use Rattle.input.specs.declared.Place.{Place}
 use Rattle.input.specs.declared.Source.{Source}
@@ -48,7 +47,3 @@ module _ (bundle : Bytes) where
         countable = isWhole;
         store = s;
       }
-
-  -- over the lent tables
-  abbrev pub reading : Input Spot Lent Place Refusal
-  reading = inputOf (lentStore bundle)

@@ -10,6 +10,7 @@ use Rattle.base.specs.Choice.{pick}
 use Rattle.base.specs.Refusal.{refusal}
 use Rattle.base.specs.declared.Range.{Range}
 use Rattle.base.specs.declared.refusal.Refusal.{Refusal}
+use Rattle.color.specs.declared.Color.{Color as Rgb}
 use Rattle.cursor.specs.declared.Cursor.{Cursor}
 use Rattle.token_laws.specs.Claims.{Inside}
 use Rattle.token.specs.Elim.{on-Step}
@@ -157,6 +158,10 @@ tokenOf bundle Colon = sign colon
 tokenOf bundle DoubleColon = sign doubleColon
 tokenOf bundle SemiColon = sign semiColon
 tokenOf bundle Comma = sign comma
+
+-- a colour of three bytes
+abbrev pub Small : Rgb → Type 0
+Small x = (x .r < 256) × ((x .g < 256) × (x .b < 256))
 
 -- ---- places and refusals
 

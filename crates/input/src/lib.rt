@@ -1,11 +1,10 @@
-// What the loader reads from and stores into: the tokens of a text of the bundle, and six lent tables with their counts.
+// What the loader reads from: the tokens of a text of the bundle.
 use base::Range;
 use base::refusal::Refusal;
 use cursor::Cursor;
 use table::Name;
 use token::Token;
 
-pub mod keep;
 pub mod tokens;
 
 // The text that is read: its number in the bundle, and where it stands there.
@@ -19,21 +18,6 @@ pub struct Place {
     pub text: usize,
     pub line: usize,
     pub character: usize,
-}
-
-// How many entries each table holds, and the first of those that no entry has taken yet: a selector takes the tests since the
-// last one, a rule the selectors and properties, a test and a property the numbers.
-pub struct Tally {
-    pub rules: usize,
-    pub selectors: usize,
-    pub tests: usize,
-    pub properties: usize,
-    pub numbers: usize,
-    pub colors: usize,
-    pub selector: usize,
-    pub test: usize,
-    pub property: usize,
-    pub number: usize,
 }
 
 // No token, or one with the place where it begins and the place behind it.
@@ -64,10 +48,4 @@ pub enum Key {
 pub enum Figure {
     NoFigure(Refusal),
     IsFigure(f64, Cursor),
-}
-
-// Whether a table had room for an entry, and the counts with it.
-pub enum Room {
-    NoRoom,
-    Stored(Tally),
 }

@@ -7,7 +7,7 @@ use Rattle.base.specs.Choice.{pick}
 use Rattle.entity.specs.Layout.{streamOf}
 use Rattle.entity.specs.declared.Sort.the-variants.{Nodes, Areas}
 use Rattle.cascade.specs.Canvas.{canvasFillColor}
-use Rattle.input.specs.Encode.{Lengths}
+use Rattle.keep.specs.Encode.{Lengths}
 use Rattle.decode.specs.Decode.{places, rulesAt}
 use Rattle.parser.specs.Load.{Held}
 use Rattle.parser.specs.declared.Counts.{Counts}

@@ -24,7 +24,7 @@ use Rattle.cascade.specs.Style.{layerTag}
 use Rattle.cascade.specs.Walk.{Answer, refused, layers, toHit, walk, propertyMaps}
 use Rattle.grammar.specs.Rules.{rulesOfReading}
 use Rattle.decode.specs.Decode.{rulesAt}
-use Rattle.input.specs.Lent.{lent}
+use Rattle.keep.specs.Lent.{lent}
 use Rattle.printing.specs.Plate.{fiveOf}
 use Rattle.style.specs.declared.Settings.{Settings}
 use Rattle.styles.specs.declared.EntityStyles.{EntityStyles}

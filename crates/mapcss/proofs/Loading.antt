@@ -17,9 +17,10 @@ use Rattle.grammar.specs.Capacity.{Tables, tablesOf}
 use Rattle.grammar.specs.Input.{Answer, refused, read}
 use Rattle.grammar.specs.Reading.{Reading}
 use Rattle.input.proofs.Fuel.{fueled}
-use Rattle.input.specs.Encode.{Lengths, capacities, tallyOf, lentOf}
-use Rattle.input.specs.Lent.{lentStore}
-use Rattle.input.specs.Source.{Spot, reading}
+use Rattle.keep.specs.Encode.{Lengths, capacities, tallyOf, lentOf}
+use Rattle.keep.specs.Lent.{lentStore}
+use Rattle.keep.specs.Source.{reading}
+use Rattle.input.specs.Source.{Spot}
 use Rattle.parser.proofs.LoadLaws.{short-bundle}
 use Rattle.parser.specs.Load.{Held, zeros, heldIn, countsOf, sheetAt, loaded, loadOf}
 use Rattle.parser.specs.declared.Counts.{Counts}

@@ -32,7 +32,8 @@ use Rattle.grammar.specs.Input.{Next, broken, end, token}
 use Rattle.grammar.specs.Reading.{Reading, Colors}
 use Rattle.grammar.specs.Stream.{Gives, here, _▸_, WholeTo, Whole, TextOf}
 use Rattle.grammar.specs.Token.{Token as Token′}
-use Rattle.input.specs.Source.{Spot, spot, source, nextAt, reading}
+use Rattle.input.specs.Source.{Spot, spot, source, nextAt}
+use Rattle.keep.specs.Source.{reading}
 use Rattle.input.specs.Text.{placed, textOf, nextOf, tokenOf, place}
 use Rattle.input.specs.declared.Place.{Place}
 use Rattle.input.specs.declared.Source.{Source}

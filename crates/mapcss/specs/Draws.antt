@@ -2,17 +2,20 @@
 -- every zoom, all settings, every list and all streams, which may be any bytes.
 use Prim.Native.Nat.{ℕ}
 use mathlib.Core.Path.{_≡_}
-use mathlib.Core.Bool.{true, false}
-use mathlib.Core.List.{List}
+use mathlib.Core.Bool.{Bool, true, false}
+use mathlib.Core.List.{List, _++_, map}
+use lib.ListN.{length}
 use Rattle.base.specs.Bytes.{Bytes}
+use Rattle.base.specs.Table.{padded, flat}
 use Rattle.color.specs.declared.NamedColor.{NamedColor}
 use Rattle.entity.specs.Layout.{streamOf}
 use Rattle.entity.specs.declared.Sort.the-variants.{Nodes, Areas}
 use Rattle.sheet.specs.Digits.{digitsOf}
 use Rattle.cascade.specs.Canvas.{canvasFillColor}
+use Rattle.cascade.specs.Draw.{Drawn, entries, stream, Ordered}
 use Rattle.cascade.specs.Style.{namedColor}
 use Rattle.grammar.specs.Rules.{rulesOfReading}
-use Rattle.input.specs.Encode.{Lengths}
+use Rattle.keep.specs.Encode.{Lengths}
 use Rattle.parser.specs.Load.{Held}
 use Rattle.parser.specs.declared.Counts.{Counts}
 use Rattle.printing.specs.Plate.{fiveOf}
@@ -24,7 +27,8 @@ use Rattle.canvas.specs.declared.CanvasColor.{CanvasColor}
 use Rattle.canvas.specs.declared.CanvasColor.the-variants.{CanvasIs}
 use Rattle.drawing.specs.Lists.{roomOf, nodesOf, areasOf}
 use Rattle.drawing.specs.declared.DrawList.{DrawList}
-use Rattle.shown.specs.Draws.{nodesDrawn, areasDrawn, written}
+use Rattle.drawing.specs.declared.DrawList.the-variants.{Listed}
+use Rattle.shown.specs.Draws.{nodesDrawn, areasDrawn, drawnWords, written}
 use Rattle.shown.specs.Style.{settingsShown}
 use Rattle.mapcss.specs.Loads.{Loads}
 
@@ -64,3 +68,34 @@ CanvasOfSheet =
     (bundle : Bytes) (l : Lengths) (n : Counts) (h : Held) (r : Loads bundle l n h) (t : StyleType)
     → (c : NamedColor)
     × ((canvasCall bundle n h t ≡ CanvasIs c) × (namedColor c ≡ canvasFillColor (typeShown t) (rulesOfReading digitsOf (r .js))))
+
+-- What a list that is not refused holds, beside all the styled layers as the streams give them: the entries of a stable sort, each as
+-- three words, then zeros.
+pub record Listing (forLabels : Bool) (given : List Drawn) (len count : ℕ) (words : List ℕ) : Type 0 where
+  pub drawn : List Drawn
+  pub ordered : Ordered forLabels given drawn
+  pub counted : count ≡ length drawn
+  pub spelled : words ≡ padded 0 len (flat (map drawnWords drawn))
+
+-- A list of nodes that is not refused holds every styled layer of every node, in drawing order.
+abbrev pub NodesOrdered : Type 0
+NodesOrdered =
+    (bundle : Bytes) (l : Lengths) (n : Counts) (h : Held) (r : Loads bundle l n h) (zoom : ℕ) (s : Settings) (len : ℕ) (nodes : Bytes)
+    (count : ℕ) (words : List ℕ)
+    → nodesCall bundle n h zoom s len nodes ≡ (Listed count, words)
+    → (given : List Drawn)
+    × (stream false (settingsShown s) zoom (rulesOfReading digitsOf (r .js)) 0 (streamOf Nodes false nodes .entities) ≡ entries given)
+    × Listing (s .«for_labels») given len count words
+
+-- A list of areas likewise; of layers that tie, those of multipolygons come first.
+abbrev pub AreasOrdered : Type 0
+AreasOrdered =
+    (bundle : Bytes) (l : Lengths) (n : Counts) (h : Held) (r : Loads bundle l n h) (zoom : ℕ) (s : Settings) (len : ℕ)
+    (ways multipolygons : Bytes) (count : ℕ) (words : List ℕ)
+    → areasCall bundle n h zoom s len ways multipolygons ≡ (Listed count, words)
+    → (ofWays : List Drawn)
+    × (ofMultipolygons : List Drawn)
+    × (stream false (settingsShown s) zoom (rulesOfReading digitsOf (r .js)) 0 (streamOf Areas false ways .entities) ≡ entries ofWays)
+    × (stream true (settingsShown s) zoom (rulesOfReading digitsOf (r .js)) 0 (streamOf Areas true multipolygons .entities)
+    ≡ entries ofMultipolygons)
+    × Listing (s .«for_labels») (ofMultipolygons ++ ofWays) len count words

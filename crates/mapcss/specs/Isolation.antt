@@ -18,7 +18,7 @@ use Rattle.cascade.specs.Isolation.{strike, Agree}
 use Rattle.cascade.specs.Style.{layerTag, widthOf, widthOrZero}
 use Rattle.grammar.specs.Reading.{Reading}
 use Rattle.grammar.specs.Rules.{rulesOfReading}
-use Rattle.input.specs.Encode.{Lengths}
+use Rattle.keep.specs.Encode.{Lengths}
 use Rattle.parser.specs.Load.{Held, loadOf}
 use Rattle.parser.specs.declared.Counts.{Counts}
 use Rattle.parser.specs.declared.Loaded.the-variants.{Sheet}

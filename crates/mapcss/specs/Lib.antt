@@ -4,3 +4,4 @@ pub mod Maps
 pub mod Styles
 pub mod Draws
 pub mod Isolation
+pub mod Numbers

@@ -11,9 +11,9 @@ use Rattle.bundle.specs.declared.Checked.the-variants.{Texts}
 use Rattle.grammar.specs.Capacity.{tablesOf, Bounded}
 use Rattle.grammar.specs.Reading.{Reading}
 use Rattle.grammar.specs.Rules.{rulesOfReading}
-use Rattle.input.specs.Encode.{Lengths, lengths, capacities, tallyOf, lentOf}
-use Rattle.input.specs.Lent.{lent}
-use Rattle.input.specs.declared.Tally.{Tally}
+use Rattle.keep.specs.Encode.{Lengths, lengths, capacities, tallyOf, lentOf}
+use Rattle.keep.specs.Lent.{lent}
+use Rattle.keep.specs.declared.Tally.{Tally}
 use Rattle.parser.specs.Load.{Held, zeros, heldIn, countsOf, loadOf}
 use Rattle.parser.specs.declared.Counts.{Counts}
 use Rattle.parser.specs.declared.Loaded.the-variants.{NotLoaded, Sheet}

@@ -16,8 +16,8 @@ use Rattle.cascade.specs.Meaning.{Meaning}
 use Rattle.cascade.specs.Numbered.{mapAnswer, mapLayers}
 use Rattle.cascade.specs.Walk.{Answer, propertyMaps}
 use Rattle.grammar.specs.Rules.{rulesOfReading}
-use Rattle.input.specs.Encode.{Lengths}
-use Rattle.input.specs.Lent.{Lent, lent}
+use Rattle.keep.specs.Encode.{Lengths}
+use Rattle.keep.specs.Lent.{Lent, lent}
 use Rattle.parser.specs.Load.{Held}
 use Rattle.parser.specs.declared.Counts.{Counts}
 use Rattle.decode.specs.Decode.{selectorIn, nameAt, valueOf as valueIn}

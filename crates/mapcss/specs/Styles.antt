@@ -13,7 +13,7 @@ use Rattle.sheet.specs.Digits.{digitsOf}
 use Rattle.cascade.specs.Style as theory
 use Rattle.cascade.specs.Walk.{propertyMaps}
 use Rattle.grammar.specs.Rules.{rulesOfReading}
-use Rattle.input.specs.Encode.{Lengths}
+use Rattle.keep.specs.Encode.{Lengths}
 use Rattle.parser.specs.Load.{Held}
 use Rattle.parser.specs.declared.Counts.{Counts}
 use Rattle.printing.specs.Plate.{fiveOf}

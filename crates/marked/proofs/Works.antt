@@ -1,10 +1,10 @@
--- The cases and the productions are worked out by computation.
+-- The marked cases, the productions and the hypotheses of demand 3 are worked out by computation.
 use mathlib.Core.Path.{refl}
 use lib.Ieee.{ofBits, ofInt, add, mul, div, neg, lt, le}
 use Rattle.base.specs.Choice.{pick}
-use Rattle.base.specs.Bytes.{same}
+use Rattle.base.specs.Bytes.{same, precedes}
 use Rattle.base.specs.Turns.{turns}
-use Rattle.base.specs.Map.{member}
+use Rattle.base.specs.Map.{member, lookup}
 use Rattle.utf8.specs.Elim.{on-Char}
 use Rattle.utf8.specs.Utf8.{fits, gathered, byRow, charOf, charAt, isUtf8}
 use Rattle.utf8.specs.Space.{among, isWhiteSpace}
@@ -33,10 +33,8 @@ use Rattle.grammar.specs.Entries.{count}
 use Rattle.grammar.specs.Capacity.{add as add-grammar, addAll}
 use Rattle.input.specs.Text.{textOf, nextOf, tokenOf, left}
 use Rattle.input.specs.Source.{nextAt}
-use Rattle.input.specs.Encode.{addRows, colorRows}
+use Rattle.keep.specs.Encode.{addRows, colorRows}
 use Rattle.parser.specs.Load.{firstText, loaded, loadOf}
-use Rattle.base.specs.Bytes.{precedes}
-use Rattle.base.specs.Map.{lookup}
 use Rattle.sheet.specs.Digits.{isWhole}
 use Rattle.entity.specs.Elim.{on-EntityAt, on-SingleEntity}
 use Rattle.entity.specs.Layout.{risesFrom, rising, tagsOf, valueOf, closedOf, tagsAt, entityAt, singleOf, entityBytes}
@@ -51,26 +49,25 @@ use mathlib.Core.List.{flatMap}
 use Rattle.marked.specs.Reach.{Met}
 use Rattle.walk.specs.Run.{bind, over, copied, assignAt, assignAll, seek, newRow, touchOf, stepOf as stepRun, hitOf, selectorsOf, ruleOf, rulesOf}
 use Rattle.walk.specs.Maps.{finish, walkOf, mapsOf}
-use Rattle.marked.specs.Meetings.{meetings, AllGet, none-met, met}
-use Rattle.marked.specs.Cases.{cases, All, none, next}
+use Rattle.token_laws.specs.Tokens.{tokensFrom, tokens}
+use Rattle.marked.specs.Marked.{True, marks, AllTrue, none, next}
 use Rattle.marked.specs.Productions.{productions, Each, none-left, and-then, Hold, no-more, one-more}
 
-pub all-worked : All cases × Hold productions
-unfolding isUtf8 member pick same turns on-Char fits gathered byRow charOf charAt among isWhiteSpace on-Next on-Digit on-Comment on-Significant bump passed nextChar canBeInAtDirective canStartIdentifier canContinueIdentifier digitValue toDigit skipLineComment skipBlockComment trySkipComment nextSignificantChar addDigit timesOdd powTen digitAdded takesDot readDigits size sign value on-ZoomLevel on-Step on-PairRead on-Reading on-Quoted on-Sign on-DigitRead lexerError isPair firstPair getTwoCharSimpleToken firstLetter getOneCharSimpleToken readDigit hexAdded readHexDigits sixDigits threeDigits readColor readZoomLevel readHyphen isNoLevel ranged zoomRange readLevels readZoomRange identifierEnd readIdentifier readQuoted readString skipOne readImport readDirective atDirectiveEnd readAtDirective isBareDot finishNumber readUnsigned readSigned readNumber readAfterMinus readOther startsNumber readLong readSingle readPair readToken stepOf ofBits ofInt add mul div neg capacityOf on-Number on-Part on-Pair on-Place numberFrom numberAt groupsOf groupOf single joined sizedOf partAt pairAt pairsAt skipOf nthOf entriesAt allUtf8 sizedBytes pairBytes mapBytes on-Checked on-FoundText countOf firstAt rangesOf textsOf goodName goodNames isBundle checkOf findIn findOf bundleBytes isSign on-import on-identifier on-string on-colorRef on-number on-zoomRange on-color colorOf on-next on-option after toBinaryStringTestType toBinaryNumericTestType widthIncrement isColors plainTest bangTest readTest readNumberList tokensToSemiColon readSimpleEval readPropertyValue readProperties readParts readSelector skipColors readRule parse importFile load idToObjectType define colorNamed count add-grammar addAll textOf nextOf tokenOf left nextAt addRows colorRows firstText loaded loadOf
-all-worked = (
-  next refl (next refl (next refl (next refl none))),
-  one-more (and-then refl (and-then refl (and-then refl none-left))) (and-then refl (and-then refl (and-then refl none-left)))
-      (one-more (and-then refl (and-then refl (and-then refl none-left))) (and-then refl (and-then refl (and-then refl none-left)))
-      (one-more (and-then refl (and-then refl (and-then refl none-left))) (and-then refl (and-then refl (and-then refl none-left)))
-      (one-more (and-then refl (and-then refl (and-then refl none-left))) (and-then refl (and-then refl (and-then refl none-left)))
-      (one-more (and-then refl (and-then refl (and-then refl none-left))) (and-then refl (and-then refl (and-then refl none-left)))
-      (one-more (and-then refl (and-then refl (and-then refl none-left))) (and-then refl (and-then refl (and-then refl none-left)))
-      (one-more (and-then refl (and-then refl (and-then refl none-left))) (and-then refl (and-then refl (and-then refl none-left))) no-more)))))),
-)
+pub all-marked : AllTrue marks
+unfolding isUtf8 member pick same turns on-Char fits gathered byRow charOf charAt among isWhiteSpace on-Next on-Digit on-Comment on-Significant bump passed nextChar canBeInAtDirective canStartIdentifier canContinueIdentifier digitValue toDigit skipLineComment skipBlockComment trySkipComment nextSignificantChar addDigit timesOdd powTen digitAdded takesDot readDigits size sign value on-ZoomLevel on-Step on-PairRead on-Reading on-Quoted on-Sign on-DigitRead lexerError isPair firstPair getTwoCharSimpleToken firstLetter getOneCharSimpleToken readDigit hexAdded readHexDigits sixDigits threeDigits readColor readZoomLevel readHyphen isNoLevel ranged zoomRange readLevels readZoomRange identifierEnd readIdentifier readQuoted readString skipOne readImport readDirective atDirectiveEnd readAtDirective isBareDot finishNumber readUnsigned readSigned readNumber readAfterMinus readOther startsNumber readLong readSingle readPair readToken stepOf ofBits ofInt add mul div neg capacityOf on-Number on-Part on-Pair on-Place numberFrom numberAt groupsOf groupOf single joined sizedOf partAt pairAt pairsAt skipOf nthOf entriesAt allUtf8 sizedBytes pairBytes mapBytes on-Checked on-FoundText countOf firstAt rangesOf textsOf goodName goodNames isBundle checkOf findIn findOf bundleBytes isSign on-import on-identifier on-string on-colorRef on-number on-zoomRange on-color colorOf on-next on-option after toBinaryStringTestType toBinaryNumericTestType widthIncrement isColors plainTest bangTest readTest readNumberList tokensToSemiColon readSimpleEval readPropertyValue readProperties readParts readSelector skipColors readRule parse importFile load idToObjectType define colorNamed count add-grammar addAll textOf nextOf tokenOf left nextAt addRows colorRows firstText loaded loadOf precedes lookup isWhole on-EntityAt on-SingleEntity risesFrom rising tagsOf valueOf closedOf tagsAt entityAt singleOf entityBytes present trueValue unaryHolds equals textHolds compares numberVerdict numericVerdict testVerdict fitsType applies testsVerdict verdict spanIn markedSpan ruleSound selectorSound namedEntry twoZeros numberValue testValue testSound oneSpan twoSpans colorWords deltaWords valueSound propertySound allBelow entriesHeld countsHeld entriesSound tablesSound places typeAt keyAt testAt layerAt bind over copied assignAt assignAll seek newRow touchOf stepRun hitOf selectorsOf ruleOf rulesOf finish walkOf mapsOf negative unsigned digits afterDigits spelt wholeNumber decimals afterDecimals exponentOf decimalFrom scaled numberValueOf unsignedNumber tagNumber lt le tokensFrom tokens True
+all-marked =
+    next refl (next refl (next refl (next refl (next refl (next refl (next refl (next refl (next refl (next refl (next refl (next refl (next refl (next refl (next refl (next refl (next refl (none)))))))))))))))))
 
-pub all-met : AllGet meetings
-unfolding isUtf8 member pick same turns on-Char fits gathered byRow charOf charAt among isWhiteSpace on-Next on-Digit on-Comment on-Significant bump passed nextChar canBeInAtDirective canStartIdentifier canContinueIdentifier digitValue toDigit skipLineComment skipBlockComment trySkipComment nextSignificantChar addDigit timesOdd powTen digitAdded takesDot readDigits size sign value on-ZoomLevel on-Step on-PairRead on-Reading on-Quoted on-Sign on-DigitRead lexerError isPair firstPair getTwoCharSimpleToken firstLetter getOneCharSimpleToken readDigit hexAdded readHexDigits sixDigits threeDigits readColor readZoomLevel readHyphen isNoLevel ranged zoomRange readLevels readZoomRange identifierEnd readIdentifier readQuoted readString skipOne readImport readDirective atDirectiveEnd readAtDirective isBareDot finishNumber readUnsigned readSigned readNumber readAfterMinus readOther startsNumber readLong readSingle readPair readToken stepOf ofBits ofInt add mul div neg capacityOf on-Number on-Part on-Pair on-Place numberFrom numberAt groupsOf groupOf single joined sizedOf partAt pairAt pairsAt skipOf nthOf entriesAt allUtf8 sizedBytes pairBytes mapBytes on-Checked on-FoundText countOf firstAt rangesOf textsOf goodName goodNames isBundle checkOf findIn findOf bundleBytes isSign on-import on-identifier on-string on-colorRef on-number on-zoomRange on-color colorOf on-next on-option after toBinaryStringTestType toBinaryNumericTestType widthIncrement isColors plainTest bangTest readTest readNumberList tokensToSemiColon readSimpleEval readPropertyValue readProperties readParts readSelector skipColors readRule parse importFile load idToObjectType define colorNamed count add-grammar addAll textOf nextOf tokenOf left nextAt addRows colorRows firstText loaded loadOf precedes lookup isWhole on-EntityAt on-SingleEntity risesFrom rising tagsOf valueOf closedOf tagsAt entityAt singleOf entityBytes present trueValue unaryHolds equals textHolds compares numberVerdict numericVerdict testVerdict fitsType applies testsVerdict verdict spanIn markedSpan ruleSound selectorSound namedEntry twoZeros numberValue testValue testSound oneSpan twoSpans colorWords deltaWords valueSound propertySound allBelow entriesHeld countsHeld entriesSound tablesSound places typeAt keyAt testAt layerAt bind over copied assignAt assignAll seek newRow touchOf stepRun hitOf selectorsOf ruleOf rulesOf finish walkOf mapsOf negative unsigned digits afterDigits spelt wholeNumber decimals afterDecimals exponentOf decimalFrom scaled numberValueOf unsignedNumber tagNumber lt le
-all-met = met refl (met refl (met refl (met refl (met refl (met refl (met refl none-met))))))
+pub all-worked : Hold productions
+unfolding isUtf8 member pick same turns on-Char fits gathered byRow charOf charAt among isWhiteSpace on-Next on-Digit on-Comment on-Significant bump passed nextChar canBeInAtDirective canStartIdentifier canContinueIdentifier digitValue toDigit skipLineComment skipBlockComment trySkipComment nextSignificantChar addDigit timesOdd powTen digitAdded takesDot readDigits size sign value on-ZoomLevel on-Step on-PairRead on-Reading on-Quoted on-Sign on-DigitRead lexerError isPair firstPair getTwoCharSimpleToken firstLetter getOneCharSimpleToken readDigit hexAdded readHexDigits sixDigits threeDigits readColor readZoomLevel readHyphen isNoLevel ranged zoomRange readLevels readZoomRange identifierEnd readIdentifier readQuoted readString skipOne readImport readDirective atDirectiveEnd readAtDirective isBareDot finishNumber readUnsigned readSigned readNumber readAfterMinus readOther startsNumber readLong readSingle readPair readToken stepOf ofBits ofInt add mul div neg capacityOf on-Number on-Part on-Pair on-Place numberFrom numberAt groupsOf groupOf single joined sizedOf partAt pairAt pairsAt skipOf nthOf entriesAt allUtf8 sizedBytes pairBytes mapBytes on-Checked on-FoundText countOf firstAt rangesOf textsOf goodName goodNames isBundle checkOf findIn findOf bundleBytes isSign on-import on-identifier on-string on-colorRef on-number on-zoomRange on-color colorOf on-next on-option after toBinaryStringTestType toBinaryNumericTestType widthIncrement isColors plainTest bangTest readTest readNumberList tokensToSemiColon readSimpleEval readPropertyValue readProperties readParts readSelector skipColors readRule parse importFile load idToObjectType define colorNamed count add-grammar addAll textOf nextOf tokenOf left nextAt addRows colorRows firstText loaded loadOf
+all-worked =
+    one-more (and-then refl (and-then refl (and-then refl none-left))) (and-then refl (and-then refl (and-then refl none-left)))
+    (one-more (and-then refl (and-then refl (and-then refl none-left))) (and-then refl (and-then refl (and-then refl none-left)))
+    (one-more (and-then refl (and-then refl (and-then refl none-left))) (and-then refl (and-then refl (and-then refl none-left)))
+    (one-more (and-then refl (and-then refl (and-then refl none-left))) (and-then refl (and-then refl (and-then refl none-left)))
+    (one-more (and-then refl (and-then refl (and-then refl none-left))) (and-then refl (and-then refl (and-then refl none-left)))
+    (one-more (and-then refl (and-then refl (and-then refl none-left))) (and-then refl (and-then refl (and-then refl none-left)))
+    (one-more (and-then refl (and-then refl (and-then refl none-left))) (and-then refl (and-then refl (and-then refl none-left))) no-more))))))
 
 -- the hypotheses of demand 3 for two sheets and two entities, as bytes
 pub bytes-met : Met

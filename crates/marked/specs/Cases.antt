@@ -1,4 +1,4 @@
--- The marked cases of a load, in one table: a sheet alone in its bundle, and what its load answers and leaves in small tables.
+-- A sheet alone in its bundle, and what its load answers and leaves in small tables.
 use Prim.Native.Nat.{ℕ}
 use mathlib.Core.Path.{_≡_}
 use mathlib.Core.List.{List, [], _∷_, _++_}
@@ -7,7 +7,7 @@ use Rattle.base.specs.Map.{entry}
 use Rattle.base.specs.Refusal.{refusal}
 use Rattle.base.specs.Table.{zeroFloat}
 use Rattle.bundle.specs.Bundle.{bundleBytes}
-use Rattle.input.specs.Encode.{Lengths, lengths}
+use Rattle.keep.specs.Encode.{Lengths, lengths}
 use Rattle.parser.specs.Load.{Held, held, zeros, loadOf}
 use Rattle.parser.specs.declared.Counts.{Counts}
 use Rattle.parser.specs.declared.Loaded.{Loaded}
@@ -36,25 +36,6 @@ alone s = bundleBytes (entry (ascii "s") s ∷ [])
 abbrev pub Holds : Case → Type 0
 Holds c = loadOf (alone (c .sheet)) small ≡ (c .answer, c .tables)
 
-pub data All : List Case → Type 0 where
-  none : All []
-  next : {c : Case} {cs : List Case} → Holds c → All cs → All (c ∷ cs)
-
 -- a quotation mark is byte 34
 abbrev pub evalSheet : Bytes
 evalSheet = ascii "way{casing-width:eval(prop(" ++ (34 ∷ []) ++ ascii "width" ++ (34 ∷ []) ++ ascii "));}"
-
--- cases 6, 7, 9 and 12
-abbrev pub cases : List Case
-cases =
-    refuses (ascii "way") 4 1 1 4
-    ∷ refuses (ascii "@a: red; way{color:@a;}") 4 5 1 21
-    ∷ record {
-      sheet = evalSheet;
-      answer = Sheet (counts 1 1 0 1 1 0);
-      tables =
-          held (1 ∷ 0 ∷ 1 ∷ 0 ∷ 1 ∷ 0 ∷ 0 ∷ 0 ∷ []) (5 ∷ 0 ∷ 0 ∷ 0 ∷ 0 ∷ 0 ∷ 0 ∷ 0 ∷ []) (0 ∷ 0 ∷ 0 ∷ 0 ∷ 0 ∷ 0 ∷ 0 ∷ 0 ∷ [])
-          (6 ∷ 8 ∷ 20 ∷ 0 ∷ 0 ∷ 0 ∷ 0 ∷ 0 ∷ []) (zeroFloat ∷ []) (0 ∷ 0 ∷ 0 ∷ 0 ∷ 0 ∷ 0 ∷ 0 ∷ 0 ∷ []);
-    }
-    ∷ record { sheet = []; answer = Sheet (counts 0 0 0 0 0 0); tables = zeros small }
-    ∷ []

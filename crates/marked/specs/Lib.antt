@@ -1,4 +1,5 @@
 pub mod Cases
 pub mod Productions
 pub mod Meetings
+pub mod Marked
 pub mod Reach

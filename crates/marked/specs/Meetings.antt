@@ -1,4 +1,4 @@
--- The marked cases of an entity that meets a sheet, in one table: how many layers it gets at a zoom.
+-- An open way that meets a sheet: how many layers it gets at a zoom.
 use Prim.Native.Nat.{ℕ}
 use mathlib.Core.Path.{_≡_}
 use mathlib.Core.List.{List, [], _∷_}
@@ -39,21 +39,5 @@ abbrev pub Gets : Meeting → Type 0
 Gets m =
     mapsAfter (alone (m .sheet)) (m .zoom) (entityBytes (openWay (m .tags))) (loadOf (alone (m .sheet)) small) ≡ Maps (m .layers)
 
-pub data AllGet : List Meeting → Type 0 where
-  none-met : AllGet []
-  met : {m : Meeting} {ms : List Meeting} → Gets m → AllGet ms → AllGet (m ∷ ms)
-
 abbrev pub tagged : Bytes → Bytes → Map Bytes
 tagged k v = entry k v ∷ []
-
--- cases 8, 10 and 11
-abbrev pub meetings : List Meeting
-meetings =
-    meeting (ascii "way[!x?]{}") 13 [] 1
-    ∷ meeting (ascii "way[!x?]{}") 13 (tagged (ascii "x") (ascii "no")) 1
-    ∷ meeting (ascii "way[!x?]{}") 13 (tagged (ascii "x") (ascii "1")) 0
-    ∷ meeting (ascii "way[ele>=500]{}") 13 (tagged (ascii "ele") (ascii "5e2")) 1
-    ∷ meeting (ascii "way[ele>=500]{}") 13 (tagged (ascii "ele") (ascii "499")) 0
-    ∷ meeting (ascii "way|z13-{}") 13 [] 1
-    ∷ meeting (ascii "way|z13-{}") 12 [] 0
-    ∷ []

@@ -3,7 +3,7 @@ use mathlib.Core.Path.{_≡_}
 use mathlib.Core.Bool.{Bool, true, false}
 use mathlib.Core.List.{List, [], _∷_, _++_}
 use Rattle.base.specs.Bytes.{Bytes, ascii}
-use Rattle.input.specs.Encode.{Lengths, lengths}
+use Rattle.keep.specs.Encode.{Lengths, lengths}
 use Rattle.parser.specs.Load.{loadOf}
 use Rattle.parser.specs.declared.Loaded.{Loaded}
 use Rattle.parser.specs.declared.Loaded.the-variants.{NotLoaded, Sheet}

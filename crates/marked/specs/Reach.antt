@@ -1,4 +1,5 @@
--- Demand 3 is not vacuous on bytes: two sheets that differ, and two entities that differ, for which the hypotheses on layer `c` hold.
+-- Demand 3 for property maps is not vacuous on bytes: two sheets that differ, and two entities that differ, for which its hypotheses on
+-- layer `c` hold, and those on the tag `layer`; program `reach` makes the style calls.
 use Prim.Native.Nat.{ℕ}
 use mathlib.Core.Path.{_≡_}
 use mathlib.Core.List.{List, [], _∷_}
@@ -14,13 +15,13 @@ use Rattle.sheet.specs.Sheet.{Rule, Value}
 use Rattle.cascade.specs.Isolation.{strike, testedKeys}
 use Rattle.cascade.specs.Match.{tag}
 use Rattle.cascade.specs.Style.{layerTag}
-use Rattle.input.specs.Lent.{lent}
-use Rattle.input.specs.declared.Tally.{Tally}
+use Rattle.keep.specs.Lent.{lent}
+use Rattle.keep.specs.declared.Tally.{Tally}
 use Rattle.parser.specs.Load.{Held, loadOf}
 use Rattle.parser.specs.declared.Loaded.{Loaded}
 use Rattle.parser.specs.declared.Loaded.the-variants.{NotLoaded, Sheet}
 use Rattle.decode.specs.Decode.{rulesAt}
-use Rattle.input.specs.Encode.{Lengths, lengths}
+use Rattle.keep.specs.Encode.{Lengths, lengths}
 use Rattle.walk.specs.declared.PropertyMaps.{PropertyMaps}
 use Rattle.walk.specs.declared.PropertyMaps.the-variants.{Maps}
 use Rattle.marked.specs.Cases.{alone}

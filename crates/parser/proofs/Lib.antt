@@ -1,9 +1,1 @@
-pub mod Laws
-pub mod Rows
-pub mod Turns
-pub mod EvalLaws
-pub mod FormLaws
-pub mod ValueLaws
-pub mod RuleLaws
-pub mod SheetLaws
 pub mod LoadLaws

@@ -24,18 +24,19 @@ use Rattle.grammar.specs.Capacity.{Tables, empty}
 use Rattle.grammar.specs.Input.{Answer}
 use Rattle.grammar.specs.Reader.{load}
 use Rattle.grammar.specs.Reading.{Reading}
-use Rattle.input.proofs.Loaded.{loaded-alike}
-use Rattle.input.proofs.Standing.{Written, lent-empty}
-use Rattle.input.specs.Encode.{Lengths, capacities, lentOf}
-use Rattle.input.specs.Lent.{Lent, lent, none-yet}
-use Rattle.input.specs.Source.{Spot, source, reading}
-use Rattle.input.specs.declared.Tally.{Tally}
+use Rattle.keep.proofs.Loaded.{loaded-alike}
+use Rattle.keep.proofs.Standing.{Written, lent-empty}
+use Rattle.keep.specs.Encode.{Lengths, capacities, lentOf}
+use Rattle.keep.specs.Lent.{Lent, lent, none-yet}
+use Rattle.keep.specs.Source.{reading}
+use Rattle.input.specs.Source.{Spot, source}
+use Rattle.keep.specs.declared.Tally.{Tally}
 use Rattle.parser.specs.Load.{Held, held, zeros, heldIn, countsOf, firstText, noneYet, sheetAt, loaded, loadOf, BundleRead}
-use Rattle.parser.specs.Sheets.{Parses, stopped, ended, SheetRead}
+use Rattle.rules.specs.Sheets.{Parses, stopped, ended, SheetRead}
 use Rattle.parser.specs.declared.Loaded.{Loaded}
 use Rattle.parser.specs.declared.Loaded.the-variants.{NotLoaded, Sheet}
-use Rattle.parser.specs.declared.Parsed.{Parsed}
-use Rattle.parser.specs.declared.Parsed.the-variants.{Stopped, Ended}
+use Rattle.rules.specs.declared.Parsed.{Parsed}
+use Rattle.rules.specs.declared.Parsed.the-variants.{Stopped, Ended}
 
 -- ---- six tables at once
 

@@ -1,5 +1,1 @@
-pub mod Answers
-pub mod Eval
-pub mod Rules
-pub mod Sheets
 pub mod Load

@@ -19,16 +19,17 @@ use Rattle.grammar.specs.Capacity.{Tables}
 use Rattle.grammar.specs.Input.{Answer, refused, read}
 use Rattle.grammar.specs.Reader.{load}
 use Rattle.grammar.specs.Reading.{Reading}
-use Rattle.input.specs.Encode.{Lengths, capacities, tallyOf, lentOf}
-use Rattle.input.specs.Lent.{Lent, range, none-yet}
-use Rattle.input.specs.Source.{Spot, spot, source, reading}
-use Rattle.input.specs.declared.Tally.{Tally}
-use Rattle.parser.specs.Sheets.{Parses}
+use Rattle.keep.specs.Encode.{Lengths, capacities, tallyOf, lentOf}
+use Rattle.keep.specs.Lent.{Lent, range, none-yet}
+use Rattle.keep.specs.Source.{reading}
+use Rattle.input.specs.Source.{Spot, spot, source}
+use Rattle.keep.specs.declared.Tally.{Tally}
+use Rattle.rules.specs.Sheets.{Parses}
 use Rattle.parser.specs.declared.Counts.{Counts}
 use Rattle.parser.specs.declared.Loaded.{Loaded}
 use Rattle.parser.specs.declared.Loaded.the-variants.{NotLoaded, Sheet}
-use Rattle.parser.specs.declared.Parsed.{Parsed}
-use Rattle.parser.specs.declared.Parsed.the-variants.{Stopped}
+use Rattle.rules.specs.declared.Parsed.{Parsed}
+use Rattle.rules.specs.declared.Parsed.the-variants.{Stopped}
 
 -- the six tables
 pub record Held : Type 0 where
@@ -65,7 +66,7 @@ abbrev pub sheetAt : Bytes → Spot
 sheetAt bundle = spot (source 0 (firstText bundle)) start
 
 -- of a reading into lists of entries, with the capacities of these lengths: a refusal leaves zeros; a sheet leaves its entries in
--- words (input/specs/Encode.antt), and zeros behind them
+-- words (keep/specs/Encode.antt), and zeros behind them
 unfoldable pub loaded : Lengths → Answer Reading Spot Tables Refusal → Loaded × Held
 loaded l (refused e υ) = (NotLoaded e, zeros l)
 loaded l (read js c υ) = (Sheet (countsOf (tallyOf υ)), heldIn (lentOf l υ))

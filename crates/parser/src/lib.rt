@@ -1,112 +1,19 @@
 // The loader: parser.rs over lent tables, from any bytes to a sheet's six tables or a refusal.
 ghost use mathlib.Core.Path.{_≡_};
 ghost use lib.ListN.{length};
-ghost use Rattle.input.specs.Encode.{lengths};
-ghost use Rattle.input.specs.Lent.{lent};
+ghost use Rattle.keep.specs.Encode.{lengths};
+ghost use Rattle.keep.specs.Lent.{lent};
 ghost use Rattle.parser.specs.Load.{held, zeros, firstText, noneYet, BundleRead, loadOf};
 use base::Range;
 use base::refusal::Refusal;
 use base::zero_floats;
 use base::zero_words;
 use bundle::Checked;
-use cursor::Cursor;
 use group::Pair;
-use input::Place;
 use input::Source;
-use input::Tally;
-use table::PropertyValue;
-use token::Token;
-use token::ZoomLevel;
-
-mod eval;
-mod rule;
-mod sheets;
-mod test;
-mod value;
-
-// What reading and storing answers: the refusal, or the place reached and the counts.
-pub enum Kept {
-    Refused(Refusal),
-    Done(Cursor, Tally),
-}
-
-// Behind a number of a list: its end, or the next number.
-pub enum Listed {
-    Unlisted(Refusal),
-    LastListed(Cursor),
-    NextListed(f64, Cursor),
-}
-
-// The beginning of a property: the end of all, or a name.
-pub enum Head {
-    NoHead(Refusal),
-    LastHead(Cursor),
-    NextHead(Range, Cursor),
-}
-
-// How far the tokens of an eval have the one form that is read, and its number.
-pub struct Form {
-    pub step: u8,
-    pub number: f64,
-}
-
-// The tokens of an eval up to its semicolon.
-pub enum Formed {
-    NoForm(Refusal),
-    IsForm(Form, Cursor),
-}
-
-// The value of a property, the place behind it, and the counts.
-pub enum ValueRead {
-    BadValue(Refusal),
-    GoodValue(PropertyValue, Cursor, Tally),
-}
-
-// A part of a selector: its end, and whether more selectors come; a zoom range; a test's bracket; a class; the layer's name.
-pub enum Part {
-    BadPart(Refusal),
-    Closing(bool, Cursor),
-    Zoom(ZoomLevel, ZoomLevel, Cursor),
-    Bracket(Cursor),
-    Class(Cursor),
-    Layer(Range, Cursor),
-}
-
-// A selector that was stored, and whether more come.
-pub enum Selected {
-    NoSelector(Refusal),
-    OneSelector(bool, Cursor, Tally),
-}
-
-// The last selector of a rule, or the start of the next: its first token, where that begins, and the place behind it.
-pub enum Choice {
-    Unchosen(Refusal),
-    LastChosen(Cursor, Tally),
-    NextChosen(Token, Place, Cursor, Tally),
-}
-
-// What the first token of a selector begins: the properties, a colors block, or a selector of an object type.
-pub enum Start {
-    BadStart(Refusal),
-    Body,
-    ColorsBlock,
-    Object(u8),
-}
-
-// The beginning of a statement: the end of the text, an import, a colour definition, or the first token of a rule.
-pub enum Statement {
-    BadStatement(Refusal),
-    EndOfText,
-    ImportOf(Range, Cursor),
-    ColorOf(Range, Cursor),
-    RuleAt(Token, Place, Cursor),
-}
-
-// What reading a whole text answers: the refusal, or the counts.
-pub enum Parsed {
-    Stopped(Refusal),
-    Ended(Tally),
-}
+use keep::Tally;
+use rules::Parsed;
+use rules::parse;
 
 // How many entries each table holds.
 pub struct Counts {
@@ -187,7 +94,7 @@ fn read_bundle(
 {
     match bundle::check_bundle(bundle) {
         Checked::BadBundle(e) => Parsed::Stopped(e),
-        Checked::Texts(_) => sheets::parse(
+        Checked::Texts(_) => parse(
             bundle,
             Source {
                 number: 0,

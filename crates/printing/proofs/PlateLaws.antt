@@ -15,7 +15,7 @@ use Rattle.group.specs.Elim.{Number-Read}
 use Rattle.group.specs.Number.{numberAt}
 use Rattle.group.specs.declared.Number.{Number}
 use Rattle.group.specs.declared.Number.the-variants.{Read}
-use Rattle.input.specs.Encode.{Lengths, lengths}
+use Rattle.keep.specs.Encode.{Lengths, lengths}
 use Rattle.parser.specs.Load.{Held, held, zeros, loadOf}
 use Rattle.parser.specs.declared.Counts.{Counts}
 use Rattle.parser.specs.declared.Loaded.{Loaded}

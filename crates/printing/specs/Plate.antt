@@ -7,7 +7,7 @@ use Rattle.base.specs.declared.Range.{Range}
 use Rattle.base.specs.declared.refusal.Refusal.{Refusal}
 use Rattle.cascade.specs.Clause.{layerName}
 use Rattle.decode.specs.Decode.{selectorIn, nameAt}
-use Rattle.input.specs.Encode.{Lengths, lengths}
+use Rattle.keep.specs.Encode.{Lengths, lengths}
 use Rattle.parser.specs.Load.{Held, zeros, loadOf}
 use Rattle.parser.specs.declared.Counts.{Counts}
 use Rattle.parser.specs.declared.Loaded.{Loaded}

@@ -28,7 +28,7 @@ use Rattle.cascade.specs.Style as theory
 use Rattle.cascade.specs.Style.{layerTag, styleFrom, styleOf, styles}
 use Rattle.tag_number.specs.Told.{layerTold}
 use Rattle.decode.specs.Decode.{places, nameAt}
-use Rattle.input.specs.Lent.{Lent}
+use Rattle.keep.specs.Lent.{Lent}
 use Rattle.walk.specs.Rows.{numbersAt}
 use Rattle.walk.specs.declared.PropertyMaps.the-variants.{NoMaps, Maps}
 use Rattle.maps.specs.Held.{answerHeld}

@@ -27,7 +27,7 @@ use Rattle.cascade.specs.Draw.{Drawn, Drawing, declined, entries, entityDrawing
 use Rattle.cascade.specs.Numbered.{mapAnswer, maps-mapped}
 use Rattle.cascade.specs.Walk.{propertyMaps}
 use Rattle.decode.specs.Decode.{places, numberedAt, rulesAt}
-use Rattle.input.specs.Lent.{Lent, lent}
+use Rattle.keep.specs.Lent.{Lent, lent}
 use Rattle.walk.specs.Maps.{walkOf}
 use Rattle.maps.proofs.Held.{walk-is, refusal-named}
 use Rattle.style.specs.declared.Settings.{Settings}

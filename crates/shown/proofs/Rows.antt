@@ -22,7 +22,7 @@ use Rattle.cascade.specs.Style as theory
 use Rattle.cascade.specs.Style.{notStar}
 use Rattle.table.specs.Value.{valueAt}
 use Rattle.decode.specs.Decode.{places, nameAt, selectorIn, propertyAt, valueOf}
-use Rattle.input.specs.Lent.{Lent}
+use Rattle.keep.specs.Lent.{Lent}
 use Rattle.walk.specs.Maps.{layerPlace}
 use Rattle.walk.specs.Rows.{numbersAt}
 use Rattle.walk.specs.Run.{seek}

@@ -24,7 +24,7 @@ use Rattle.table.specs.declared.Name.the-variants.{Plain, Joined}
 use Rattle.table.specs.declared.PropertyValue.the-variants.{NoValue, Identifier, Text, Shade, Numbers, WidthDelta}
 use Rattle.tag_number.specs.declared.LayerTag.{LayerTag}
 use Rattle.decode.specs.Decode.{joinedAt, nameAt, propertyAt, valueOf}
-use Rattle.input.specs.Lent.{Lent}
+use Rattle.keep.specs.Lent.{Lent}
 use Rattle.walk.specs.Rows.{placeOf}
 use Rattle.style.specs.Get.{propertyIn, absent, measure, nameColor, colorOf, oneOf, numberOf, deltaOf, dashesOf, textOf, nameRange, wordRange, wordOf, capNamed, positionNamed}
 use Rattle.style.specs.Style.{defaultZ, zIndexOf, casingMultiplier, baseWidth, casingOnly, fullCasing, multiplierOf, fontSize, textStyleOf, styleAt}

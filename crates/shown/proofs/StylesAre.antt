@@ -25,7 +25,7 @@ use Rattle.cascade.specs.Walk.{Answer, refused, layers, propertyMaps}
 use Rattle.tag_number.specs.Told.{layerTold}
 use Rattle.tag_number.specs.declared.LayerTag.{LayerTag}
 use Rattle.decode.specs.Decode.{places, nameAt, numberedAt, rulesAt}
-use Rattle.input.specs.Lent.{Lent, lent}
+use Rattle.keep.specs.Lent.{Lent, lent}
 use Rattle.walk.specs.Maps.{walkOf}
 use Rattle.walk.specs.Rows.{numbersAt}
 use Rattle.walk.specs.declared.PropertyMaps.{PropertyMaps}

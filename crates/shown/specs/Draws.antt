@@ -19,7 +19,7 @@ use Rattle.cascade.specs.Style as theory
 use Rattle.valid.specs.Valid.{tablesSound}
 use Rattle.valid.specs.declared.Counts.{Counts}
 use Rattle.decode.specs.Decode.{rulesAt}
-use Rattle.input.specs.Lent.{Lent, lent}
+use Rattle.keep.specs.Lent.{Lent, lent}
 use Rattle.style.specs.declared.Settings.{Settings}
 use Rattle.drawing.specs.Gather.{streamRank}
 use Rattle.drawing.specs.Lists.{roomOf, nodesOf, areasOf}

@@ -16,7 +16,7 @@ use Rattle.table.specs.declared.Name.the-variants.{Plain, Joined}
 use Rattle.tag_number.specs.declared.LayerTag.{LayerTag}
 use Rattle.tag_number.specs.declared.LayerTag.the-variants.{NoLayer, Layer}
 use Rattle.decode.specs.Decode.{joinedAt, propertyAt}
-use Rattle.input.specs.Lent.{Lent}
+use Rattle.keep.specs.Lent.{Lent}
 use Rattle.style.specs.Style.{styleAt}
 use Rattle.style.specs.declared.Dashes.{Dashes}
 use Rattle.style.specs.declared.Dashes.the-variants.{NoDashes, Dashed}

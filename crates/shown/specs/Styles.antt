@@ -18,8 +18,8 @@ use Rattle.cascade.specs.Walk.{Answer, refused, layers, propertyMaps}
 use Rattle.valid.specs.Valid.{tablesSound}
 use Rattle.valid.specs.declared.Counts.{Counts}
 use Rattle.decode.specs.Decode.{rulesAt}
-use Rattle.input.specs.Lent.{Lent, lent}
-use Rattle.input.specs.declared.Tally.{Tally}
+use Rattle.keep.specs.Lent.{Lent, lent}
+use Rattle.keep.specs.declared.Tally.{Tally}
 use Rattle.walk.specs.Selectors.{layerIn}
 use Rattle.style.specs.declared.Settings.{Settings}
 use Rattle.styles.specs.Styles.{stylesOf}

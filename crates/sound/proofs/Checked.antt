@@ -38,9 +38,9 @@ use Rattle.valid.specs.Valid.{
   propertySound,
   allBelow,
 }
-use Rattle.input.specs.Lent.{Small}
+use Rattle.input.specs.Text.{Small}
 use Rattle.sound.specs.Lies.{Span, Lies, Layer}
-use Rattle.input.proofs.Tints.{word-behind}
+use Rattle.keep.proofs.Tints.{word-behind}
 
 -- the eight words of entry i
 pub record Row (t : List ℕ) (i a b c d e f g h : ℕ) : Type 0 where

@@ -15,14 +15,14 @@ use Rattle.valid.specs.declared.Counts.{Counts}
 use Rattle.grammar.specs.Capacity.{empty, tablesOf}
 use Rattle.grammar.specs.CapacityLaws.{reading-takes}
 use Rattle.grammar.specs.Entries.{entriesOf}
-use Rattle.input.specs.Encode.{addRows, rowsOf, lentOf}
-use Rattle.input.specs.Lent.{lentStore}
+use Rattle.keep.specs.Encode.{addRows, rowsOf, lentOf}
+use Rattle.keep.specs.Lent.{lentStore}
 use Rattle.sound.proofs.Drawn.{reading-lies}
-use Rattle.input.proofs.Loaded.{loaded-accepted}
-use Rattle.input.proofs.Rows.{rows-even, rows-counted, rows-all}
+use Rattle.keep.proofs.Loaded.{loaded-accepted}
+use Rattle.keep.proofs.Rows.{rows-even, rows-counted, rows-all}
 use Rattle.sound.proofs.Sound.{Sound, reading-sound}
 use Rattle.sound.specs.Handed.{countsOf, TablesPass, LoadedPasses}
-use Rattle.input.proofs.Standing.{padded-long, eight-in, one-in}
+use Rattle.keep.proofs.Standing.{padded-long, eight-in, one-in}
 
 held : (len n : ℕ) (es : List ℕ) → length es ≡ n * 8 → n ≤ capacityOf 8 len → entriesHeld n (length (padded 0 len es)) ≡ true
 unfolding entriesHeld

@@ -18,12 +18,12 @@ use Rattle.valid.specs.Valid.{ruleSound, selectorSound, testSound, propertySoun
 use Rattle.grammar.specs.Reading.{plain, digits, Test, unary, text, numeric, Value, word as wordValue, quoted, colored, numbers, widthDelta, Selector, Property, Rule, ruleItem, colorItem, Reading}
 use Rattle.grammar.specs.Input.{Entry, ruleEntry, selectorEntry, testEntry, propertyEntry, numberEntry}
 use Rattle.grammar.specs.Entries.{testEntries, testsEntries, numbersEntries, valueEntries, propertiesEntries, selectorsEntries, ruleEntries, entriesOf}
-use Rattle.input.specs.Encode.{Rows, noRows, addRow, addRows}
-use Rattle.input.specs.Lent.{range, typeNumber, levelIn, layerIn, nameShown, unaryKind, wordKind, digitsKind, numericKind, testRow, valueShown, wordRow, valueRow, freshNumbers}
+use Rattle.keep.specs.Encode.{Rows, noRows, addRow, addRows}
+use Rattle.keep.specs.Lent.{range, typeNumber, levelIn, layerIn, nameShown, unaryKind, wordKind, digitsKind, numericKind, testRow, valueShown, wordRow, valueRow, freshNumbers}
 use Rattle.input.specs.Text.{rangeOf}
 use Rattle.sound.proofs.Checked.{row-there, all-more, span-words, rule-row, selector-row, test-row, unary-value, word-value, number-value, property-row, one-value, two-value, color-value, numbers-value, delta-value}
 use Rattle.sound.specs.Lies.{Each, none-left, and-then, Span, Lies, Layer, TestLies, ValueLies, PropertyLies, SelectorLies, RuleLies, ItemLies}
-use Rattle.input.proofs.Rows.{Even, even-row, rows-append}
+use Rattle.keep.proofs.Rows.{Even, even-row, rows-append}
 
 module _ (bundle : ℕ) where
   -- the rows pass the check, before any tail, beside tables of as many entries or more

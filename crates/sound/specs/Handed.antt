@@ -10,9 +10,10 @@ use Rattle.grammar.specs.Capacity.{empty, tablesOf, Bounded}
 use Rattle.grammar.specs.Input.{read}
 use Rattle.grammar.specs.Reader.{load}
 use Rattle.grammar.specs.Reading.{Reading}
-use Rattle.input.specs.Encode.{Lengths, capacities, lentOf}
-use Rattle.input.specs.Lent.{Lent}
-use Rattle.input.specs.Source.{Spot, reading}
+use Rattle.keep.specs.Encode.{Lengths, capacities, lentOf}
+use Rattle.keep.specs.Lent.{Lent}
+use Rattle.keep.specs.Source.{reading}
+use Rattle.input.specs.Source.{Spot}
 use Rattle.sound.specs.Lies.{Each, ItemLies}
 
 abbrev pub countsOf : Lent → Counts

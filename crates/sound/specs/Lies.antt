@@ -11,8 +11,8 @@ use Rattle.table.specs.declared.LayerName.the-variants.{Unnamed, Named}
 use Rattle.table.specs.declared.Name.{Name}
 use Rattle.table.specs.declared.Name.the-variants.{Plain, Joined}
 use Rattle.grammar.specs.Reading.{plain, digits, Test, unary, text, numeric, Value, word, quoted, colored, numbers, widthDelta, Selector, Property, Rule, Item, ruleItem, colorItem}
-use Rattle.input.specs.Lent.{layerIn, nameShown, Small}
-use Rattle.input.specs.Text.{rangeOf}
+use Rattle.keep.specs.Lent.{layerIn, nameShown}
+use Rattle.input.specs.Text.{Small, rangeOf}
 
 pub data Each {A : Type 0} (P : A → Type 0) : List A → Type 0 where
   none-left : Each P []

@@ -4,7 +4,7 @@ ghost use mathlib.Core.Path.{_≡_};
 ghost use Prim.Native.Nat.{_+_, _≤_, _<_};
 ghost use lib.ListN.{length};
 use capi::mapcss_load;
-use capi_styles::mapcss_styles;
+use capi::mapcss_styles;
 use libc::STDIN_FILENO;
 use libc::STDOUT_FILENO;
 

@@ -1,9 +1,5 @@
--- A step of the tokenizer, and the refusal that it leads to.
-use Prim.Native.Nat.{ℕ}
-use mathlib.Core.Option.{Option, none, some}
+-- A step of the tokenizer.
 use Rattle.base.specs.Bytes.{Bytes}
-use Rattle.base.specs.Refusal.{refusal}
-use Rattle.base.specs.declared.refusal.Refusal.{Refusal}
 use Rattle.cursor.specs.Blank.{nextSignificantChar}
 use Rattle.cursor.specs.Elim.{on-Significant}
 use Rattle.cursor.specs.declared.Cursor.{Cursor}
@@ -18,9 +14,3 @@ stepOf s c =
     on-Significant (nextSignificantChar s c) (λ d. Wrong openComment (d .line) (d .character)) End λ idx ch d.
     on-Reading (readToken s idx ch d) Wrong λ token e.
     Took token (d .line) (d .character) e
-
--- the five numbers of an error in the text of this number; a token and the end refuse nothing
-abbrev pub refusalOf : ℕ → Step → Option Refusal
-refusalOf text (Wrong reason line character) = some (refusal 3 reason text line character)
-refusalOf text (End c) = none
-refusalOf text (Took t line character c) = none

@@ -87,7 +87,8 @@ pub enum DigitRead {
 }
 
 // The next token from a cursor on. Bytes that are no character end the text as its end does: texts are checked to be UTF-8 before.
-// specs/Claims.antt says what each step consumes and what its lines and characters mean; specs/Tokens.antt has all tokens of a text.
+// crates/token_laws/specs says what each step consumes and what its lines and characters mean (Claims.antt), and has all tokens of a text
+// (Tokens.antt).
 pub fn next_token(s: &[u8], c: Cursor) -> Step
     ensures { λ r. ⌜ r ≡ stepOf (now (s .entry)) c ⌝ }
 {

@@ -1,12 +1,12 @@
 -- `capi::mapcss_load` meets its contract.
-use Rattle.capi.proofs.Words.{load-told}
+use Rattle.capi.proofs.AnswerLaws.{load-told}
 use borrow.Author.Needs.{needs}
 use Rattle.capi.proofs.mapcss_load.Statement.{statement}
 use Rattle.capi.proofs.mapcss_load.Tie as tie
 use Rattle.capi.proofs.mapcss_load.Reads as reads
 use Rattle.capi.proofs.mapcss_load.Lts as lts
-use Rattle.capi.proofs.store_six.Reads as store-six-reads
-use Rattle.capi.proofs.told_load.Reads as told-load-reads
+use Rattle.capi.proofs.answers.store_six.Reads as store-six-reads
+use Rattle.capi.proofs.answers.told_load.Reads as told-load-reads
 use Rattle.parser.proofs.load.Reads as load-reads
 
 load-requires : tie.Need-load-requires

@@ -15,37 +15,37 @@ use Rattle.input.proofs.tokens.expect_semicolon.Lts as lts
 use Rattle.input.proofs.tokens.read_mandatory_token.Reads as read-mandatory-token-reads
 use Rattle.input.proofs.tokens.refuse.Reads as refuse-reads
 
--- src/tokens.rt:145:11
+-- src/tokens.rt:140:11
 read-mandatory-token-requires : tie.Need-read-mandatory-token-requires
 read-mandatory-token-requires c κs = search needs
 
--- src/tokens.rt:146:28
+-- src/tokens.rt:141:28
 enum-known-e : tie.Need-enum-known-e
 enum-known-e c = search needs
 
--- src/tokens.rt:147:24
+-- src/tokens.rt:142:24
 enum-known-t : tie.Need-enum-known-t
 enum-known-t c = search needs
 
--- src/tokens.rt:148:33
+-- src/tokens.rt:143:33
 enum-told : tie.Need-enum-told
 enum-told c = search needs
 
--- src/tokens.rt:149:32
+-- src/tokens.rt:144:32
 refuse-requires : tie.Need-refuse-requires
 refuse-requires c κs = search needs
 
--- src/tokens.rt:142:1
+-- src/tokens.rt:137:1
 returns : tie.Need-returns
 unfolding expectOf
 returns c = Mandatory-NoToken _ _ _ (via (c .before .before .before .read-mandatory-token .ensures) (c .before .e .given .1)) refl
 
--- src/tokens.rt:142:1
+-- src/tokens.rt:137:1
 returns-2 : tie.Need-returns-2
 unfolding expectOf isSign tokenOf
 returns-2 c = Mandatory-Got _ _ _ (via (c .before .before .before .before .before .read-mandatory-token .ensures) (c .before .before .before .t .given .1)) (cond-true _ _ _ (sign-known _ semiColon (c .enum-told .given .1) refl) refl)
 
--- src/tokens.rt:142:1
+-- src/tokens.rt:137:1
 returns-3 : tie.Need-returns-3
 unfolding expectOf
 returns-3 c = Mandatory-Got _ _ _ (via (c .before .before .before .before .before .read-mandatory-token .ensures) (c .before .before .before .t .given .1)) (cond-false _ _ _ (not-sign _ (24 ∷ []) _ (c .before .match2 .keys2) semiColon tt) (ap Another (c .refuse .ensures)))

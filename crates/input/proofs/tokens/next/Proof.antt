@@ -36,7 +36,7 @@ enum-known-d c = search needs
 enum-known-t : tie.Need-enum-known-t
 enum-known-t c = search needs
 
--- src/tokens.rt:36:13
+-- src/tokens.rt:35:57
 placed-requires : tie.Need-placed-requires
 placed-requires c κs = next-fits (now (c .before .before .before .before .before .before .before .args .bundle)) _ _ _ _ _ _ (omega arith) (via (c .before .before .before .next-token .ensures ∙ ap (λ s. stepOf s (c .before .before .before .before .before .before .before .args .c)) (c .before .before .before .before .part .ensures)) (c .before .t .given .1))
 

@@ -14,37 +14,37 @@ use Rattle.input.proofs.tokens.read_figure.Lts as lts
 use Rattle.input.proofs.tokens.read_mandatory_token.Reads as read-mandatory-token-reads
 use Rattle.input.proofs.tokens.refuse.Reads as refuse-reads
 
--- src/tokens.rt:170:11
+-- src/tokens.rt:165:11
 read-mandatory-token-requires : tie.Need-read-mandatory-token-requires
 read-mandatory-token-requires c κs = search needs
 
--- src/tokens.rt:171:28
+-- src/tokens.rt:166:28
 enum-known-e : tie.Need-enum-known-e
 enum-known-e c = search needs
 
--- src/tokens.rt:172:24
+-- src/tokens.rt:167:24
 enum-known-t : tie.Need-enum-known-t
 enum-known-t c = search needs
 
--- src/tokens.rt:173:27
+-- src/tokens.rt:168:27
 enum-known-t-2 : tie.Need-enum-known-t-2
 enum-known-t-2 c = search needs
 
--- src/tokens.rt:174:35
+-- src/tokens.rt:169:35
 refuse-requires : tie.Need-refuse-requires
 refuse-requires c κs = search needs
 
--- src/tokens.rt:167:1
+-- src/tokens.rt:162:1
 returns : tie.Need-returns
 unfolding figureOf
 returns c = Mandatory-NoToken _ _ _ (via (c .before .before .before .read-mandatory-token .ensures) (c .before .e .given .1)) refl
 
--- src/tokens.rt:167:1
+-- src/tokens.rt:162:1
 returns-2 : tie.Need-returns-2
 unfolding figureOf on-number tokenOf
 returns-2 c = got-known _ _ _ (via (c .before .before .before .before .before .before .read-mandatory-token .ensures) (c .before .before .before .before .t .given .1)) (c .before .t2 .given .1) refl
 
--- src/tokens.rt:167:1
+-- src/tokens.rt:162:1
 returns-3 : tie.Need-returns-3
 unfolding figureOf
 returns-3 c = Mandatory-Got _ _ _ (via (c .before .before .before .before .before .read-mandatory-token .ensures) (c .before .before .before .t .given .1)) (not-number _ (3 ∷ []) _ (c .before .match2 .keys2) (_≡_ _) _ _ tt (ap NoFigure (c .refuse .ensures)))

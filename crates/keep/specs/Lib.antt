@@ -1,0 +1,5 @@
+pub mod Elim
+pub mod Lent
+pub mod Encode
+pub mod Source
+pub mod Answers
