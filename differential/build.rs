@@ -43,8 +43,9 @@ fn main() {
     if env::var("CARGO_FEATURE_RATTLE").is_ok() {
         let library = here.join("../target/staticlib");
         println!("cargo:rustc-link-search=native={}", library.display());
-        for name in ["libcapi_token.a", "libcapi.a", "libcapi_maps.a", "libcapi_styles.a"] {
-            println!("cargo:rerun-if-changed={}", library.join(name).display());
+        for name in ["capi_token", "capi"] {
+            println!("cargo:rustc-link-lib=static={name}");
+            println!("cargo:rerun-if-changed={}", library.join(format!("lib{name}.a")).display());
         }
     }
 }

@@ -20,7 +20,7 @@ features=()
 if [[ -n ${ALONE:-} ]]; then
     features=(--no-default-features)
 else
-    (cd "$top" && rt staticlib capi_token && rt staticlib capi && rt staticlib capi_maps && rt staticlib capi_styles) >&2
+    (cd "$top" && rt staticlib capi_token && rt staticlib capi) >&2
 fi
 # cargo finds .cargo/config.toml by its working directory
 (cd "$here" && cargo build --release --quiet "${features[@]}") >&2

@@ -1,90 +1,193 @@
-//! Times both tokenizers, the load beside the original's parser, and property maps, on the same sheets in the same process;
-//! bench_styles.rs has styles and drawing lists.
+//! Times both sides by turns on the same sheets in the same process, and measures their memory: one table. Here are tokens,
+//! loads and property maps; bench_styles.rs has styles, the canvas colour and drawing lists.
 
 use crate::bench_styles;
 use crate::bundles;
+use crate::clock;
 use crate::entities::{self, Entity};
 use crate::geodata::reader::probe as reader;
-use crate::load_run::Files;
-use crate::loads::Lent;
+use crate::load_run::{Files, ALL};
+use crate::loads::{Lent, NUMBERS};
 use crate::map_cases::random_entity;
 use crate::map_run::Sheet;
 use crate::mapcss::parser::probe;
 use crate::mapcss::token::Tokenizer;
 use crate::maps::Tally;
+use crate::memory;
 use crate::model;
 use crate::random::Random;
-use crate::sheets;
-use crate::tokens::{self, Payload};
-use std::collections::{BTreeMap, BTreeSet};
+use crate::sheets::{self, rules, Item};
+use std::collections::BTreeSet;
 use std::hint::black_box;
 use std::path::Path;
-use std::time::Instant;
 
-const ROUNDS: usize = 50;
+pub const ROUNDS: usize = 50;
+pub const ENTITIES: usize = 10_000;
+pub const MAP_ROUNDS: usize = 10;
+/// An entity seldom has more.
+pub const MOST_TAGS: usize = 20;
+pub const RULES: [usize; 3] = [20, 200, 800];
+
+/// Bytes that a call writes besides tables, maps, styles and lists: five or six words.
+pub const OUT: usize = 5 * 8;
+const LOAD_OUT: usize = 6 * 8;
+const TOKEN_OUT: usize = 11 * 8;
+/// 33 rows of 131 words (docs/TABLES.md).
+const MAPS: usize = 33 * 131 * 4;
 
 pub fn bench() -> bool {
     if cfg!(not(feature = "rattle")) {
-        println!("built without our library: both are the original");
+        println!("built without our libraries: both are the original");
     }
-    for least in [100 * 1024, 1024 * 1024] {
-        let mut text = String::new();
-        for sheet in sheets::texts().iter().cycle() {
-            if text.len() >= least {
-                break;
-            }
-            text.push_str(sheet);
-        }
-        // Taking turns, so that a busy moment of the machine falls on both.
-        let (mut original, mut ours) = (Best::new(), Best::new());
-        for _ in 0..ROUNDS {
-            original.round(text.as_str(), original_tokens);
-            ours.round(text.as_str(), our_tokens);
-        }
-        assert_eq!(original.count, ours.count);
-        let speed = |best: &Best| text.len() as f64 / 1e6 / best.seconds;
-        println!("{} bytes, {} tokens, best of {ROUNDS} rounds", text.len(), original.count);
-        println!("  original {:.1} MB/s", speed(&original));
-        println!("  ours     {:.1} MB/s, {:.2} times the original", speed(&ours), original.seconds / ours.seconds);
-    }
-    loads();
-    property_maps();
-    bench_styles::bench();
-    true
+    let table = || {
+        println!("| what, ns for a | size | Rust | ours | ratio | Rust's memory: heap + stack | ours: lent + stack |");
+        println!("|---|---|---|---|---|---|---|");
+        tokens();
+        loads();
+        property_maps();
+        bench_styles::bench();
+    };
+    // a thread's stack can be measured
+    let thread = std::thread::Builder::new().stack_size(memory::STACK).spawn(table).expect("a thread");
+    thread.join().is_ok()
 }
 
-/// A row for each size: ns for a byte, and how many times as fast as the original. Tables just large enough are lent,
-/// then tables of 16,384 entries, all of which a load clears.
-fn loads() {
-    println!("loads, best of {ROUNDS} rounds; ratio: original / ours");
-    println!("| bytes | rules | original ns/byte | ours ns/byte | ratio | ours, 16,384 entries lent | ratio |");
-    println!("|---|---|---|---|---|---|---|");
-    for (least, remarked) in [(1 << 10, false), (10 << 10, false), (100 << 10, false), (MOST_TEXT, true)] {
-        let text = load_text(least, remarked);
-        let bundle = bundles::single(&text);
-        let tables = match model::load(&bundle, &crate::load_run::ALL) {
-            Ok(tables) => tables,
-            Err(refusal) => panic!("the text for timing is refused: {refusal:?}"),
-        };
-        let (mut original, mut ours, mut large) = (Best::new(), Best::new(), Best::new());
-        let (mut exact, mut all) = (Loader::new(&tables.just_enough()), Loader::new(&crate::load_run::ALL));
-        for _ in 0..ROUNDS {
-            original.round(text.as_str(), original_rules);
-            ours.round(&bundle[..], |bundle| exact.rules(bundle));
-            large.round(&bundle[..], |bundle| all.rules(bundle));
+/// One side of a row: the least time of all rounds, or what a round took of memory.
+#[derive(Default)]
+pub struct Side {
+    measured: bool,
+    pub count: usize,
+    best: Option<f64>,
+    heap: usize,
+    stack: usize,
+}
+
+impl Side {
+    /// What `call` makes is dropped after the clock has stopped.
+    pub fn round<T: ?Sized, R: Into<Read>>(&mut self, input: &T, mut call: impl FnMut(&T) -> R) {
+        if self.measured {
+            let (made, heap, stack) = memory::measured(|| call(black_box(input)));
+            (self.count, self.heap, self.stack) = (made.into().0, heap, stack);
+            return;
         }
-        assert!(original.count == ours.count && ours.count == large.count);
-        let ns = |best: &Best| best.seconds * 1e9 / text.len() as f64;
+        let (made, ns) = clock::timed(|| black_box(call(black_box(input))));
+        self.best = Some(self.best.map_or(ns, |best| best.min(ns)));
+        self.count = made.into().0;
+    }
+
+    /// Nanoseconds of the best round, for one of so many units.
+    fn ns(&self, units: usize) -> f64 {
+        (self.best.expect("a round") - clock::own()) / units as f64
+    }
+}
+
+pub struct Read(usize);
+
+impl From<usize> for Read {
+    fn from(n: usize) -> Read {
+        Read(n)
+    }
+}
+
+impl<T> From<Vec<T>> for Read {
+    fn from(all: Vec<T>) -> Read {
+        Read(all.len())
+    }
+}
+
+/// A row of the table: what is done, to how much, how many units that is, and the bytes lent to be written.
+pub struct Row {
+    pub what: &'static str,
+    pub size: String,
+    pub units: usize,
+    pub lent: usize,
+    pub rounds: usize,
+}
+
+impl Row {
+    /// Both sides by turns, so that a busy moment of the machine falls on both, behind a round that is not counted; then
+    /// one round each for the memory. Both must count the same.
+    pub fn contest(&self, mut original: impl FnMut(&mut Side), mut ours: impl FnMut(&mut Side)) {
+        let (mut a, mut b) = (Side::default(), Side::default());
+        original(&mut Side::default());
+        ours(&mut Side::default());
+        for _ in 0..self.rounds {
+            original(&mut a);
+            ours(&mut b);
+        }
+        let [mut c, mut d] = [(); 2].map(|()| Side { measured: true, ..Side::default() });
+        original(&mut c);
+        ours(&mut d);
+        assert!([b.count, c.count, d.count].iter().all(|&count| count == a.count), "{}: other counts", self.what);
+        let ns = |side: &Side| side.ns(self.units);
         println!(
-            "| {} | {} | {:.2} | {:.2} | {:.2} | {:.2} | {:.2} |",
-            text.len(),
-            original.count,
-            ns(&original),
-            ns(&ours),
-            original.seconds / ours.seconds,
-            ns(&large),
-            original.seconds / large.seconds,
+            "| {} | {} | {:.1} | {:.1} | {:.2} | {} + {} | {} + {} |",
+            self.what,
+            self.size,
+            ns(&a),
+            ns(&b),
+            ns(&a) / ns(&b),
+            grouped(c.heap),
+            grouped(c.stack),
+            grouped(self.lent),
+            grouped(d.stack)
         );
+    }
+}
+
+/// A number with commas.
+pub fn grouped(n: usize) -> String {
+    let digits = n.to_string();
+    let mut out = String::new();
+    for (k, digit) in digits.chars().enumerate() {
+        if k > 0 && (digits.len() - k) % 3 == 0 {
+            out.push(',');
+        }
+        out.push(digit);
+    }
+    out
+}
+
+/// The sheets joined to texts of several sizes. Ours is called once for each token.
+fn tokens() {
+    for size in [1 << 10, 10 << 10, 100 << 10, 1 << 20] {
+        let text: String = sheets::texts().iter().cycle().flat_map(|sheet| sheet.chars()).take(size).collect();
+        let end = text.rfind('}').expect("a rule") + 1;
+        let text = &text[..end];
+        let row = Row {
+            what: "tokens, byte",
+            size: format!("{} bytes", grouped(text.len())),
+            units: text.len(),
+            lent: TOKEN_OUT,
+            rounds: ROUNDS,
+        };
+        row.contest(|side| side.round(text, original_tokens), |side| side.round(text, our_tokens));
+    }
+}
+
+/// The original reads the text from memory. Tables just large enough are lent, then six of 16,384 entries, all of which a
+/// load clears.
+fn loads() {
+    for (what, all) in [("load, byte", false), ("load with 16,384 entries lent, byte", true)] {
+        for (least, remarked) in [(1 << 10, false), (10 << 10, false), (100 << 10, false), (MOST_TEXT, true)] {
+            let text = load_text(least, remarked);
+            let bundle = bundles::single(&text);
+            let tables = model::load(&bundle, &ALL).expect("a text for timing");
+            let lent = if all { ALL } else { tables.just_enough() };
+            let bytes = |table: usize| lent[table] * if table == NUMBERS { 8 } else { 4 };
+            let mut loader = Loader::new(&lent);
+            let row = Row {
+                what,
+                size: format!("{} bytes, {} rules", grouped(text.len()), grouped(tables.count(0))),
+                units: text.len(),
+                lent: LOAD_OUT + (0..6).map(bytes).sum::<usize>(),
+                rounds: ROUNDS,
+            };
+            row.contest(
+                |side| side.round(text.as_str(), original_rules),
+                |side| side.round(&bundle[..], |bundle| loader.rules(bundle)),
+            );
+        }
     }
 }
 
@@ -94,11 +197,10 @@ const MOST_TEXT: usize = bundles::MOST_BYTES - 7;
 /// A text of the sheets' rules, at least (the last size: at most) so long. A colour is defined before its first use, and
 /// no text is imported. A MiB of rules has more entries than a table takes: there, every other line is a remark.
 fn load_text(size: usize, remarked: bool) -> String {
-    let (rules, definitions) = sheet_items();
     let mut text = String::new();
     let mut defined = BTreeSet::new();
-    for rule in rules.iter().cycle() {
-        let mut part = defining(rule, &definitions, &mut defined);
+    for rule in rules().all.iter().cycle() {
+        let mut part = rules().defining(rule, &mut defined);
         part += &rule.text;
         if remarked {
             let remark: String =
@@ -116,93 +218,60 @@ fn load_text(size: usize, remarked: bool) -> String {
     unreachable!()
 }
 
-/// The sheets' rules, and the first definition of each colour.
-fn sheet_items() -> (Vec<Item>, BTreeMap<String, String>) {
-    let mut definitions = BTreeMap::new();
-    let mut rules = Vec::new();
-    for sheet in sheets::texts() {
-        for item in items(&sheet) {
-            match item.defines {
-                Some(name) => drop(definitions.entry(name).or_insert(item.text)),
-                None if !item.imports => rules.push(item),
-                None => {}
-            }
+/// A sheet of so many of the sheets' rules, taken from all of them; or from those that have no rule for the canvas.
+pub fn rules_sheet(count: usize, canvas: bool) -> Sheet {
+    let all: Vec<&Item> = rules().all.iter().filter(|rule| canvas || !rule.text.contains("canvas")).collect();
+    let text = rules().sheet((0..count).map(|k| all[k * all.len() / count]));
+    Sheet::load(&mut Files::new(), bundles::single(&text)).expect("a sheet for timing")
+}
+
+/// Entities for a sheet, each with a zoom, for which `fits`.
+pub fn entities_for(sheet: &Sheet, mut fits: impl FnMut(&Entity, u8) -> bool) -> Vec<(Entity, u8)> {
+    let r = &mut Random::new(1, 1);
+    let mut entities = Vec::new();
+    while entities.len() < ENTITIES {
+        let (entity, _) = random_entity(r, &sheet.load);
+        let zoom = r.between(8, 18) as u8;
+        if entity.tags.len() <= MOST_TAGS && fits(&entity, zoom) {
+            entities.push((entity, zoom));
         }
     }
-    (rules, definitions)
+    entities
 }
 
-/// The definitions that a rule needs and the text has not yet.
-fn defining<'a>(rule: &'a Item, definitions: &BTreeMap<String, String>, defined: &mut BTreeSet<&'a str>) -> String {
-    let fresh = rule.uses.iter().filter(|name| defined.insert(name));
-    // a name that is used in a `colors` block alone has no definition
-    fresh.filter_map(|name| definitions.get(name)).map(String::as_str).collect()
+pub fn size_of_sheet(sheet: &Sheet) -> String {
+    format!("{} rules, {} selectors", sheet.handed.counts[0], grouped(sheet.handed.counts[1] as usize))
 }
 
-/// A sheet of so many of the sheets' rules, taken from all of them.
-pub fn rules_text(count: usize) -> String {
-    let (rules, definitions) = sheet_items();
-    let mut text = String::new();
-    let mut defined = BTreeSet::new();
-    for k in 0..count {
-        let rule = &rules[k * rules.len() / count];
-        text += &defining(rule, &definitions, &mut defined);
-        text += &rule.text;
-    }
-    text
-}
-
-pub const ENTITIES: usize = 10_000;
-pub const MAP_ROUNDS: usize = 10;
-/// An entity seldom has more.
-pub const MOST_TAGS: usize = 20;
-
-/// A row for each sheet: entities a second. The original has its entities and its rules in memory and uses no cache; ours
-/// gets the bytes of an entity and checks them, and the tables, in each call.
+/// Each entity in a call of its own. The original has its entities and its rules in memory; ours gets the bytes of an
+/// entity and judges them, and the tables, in each call.
 fn property_maps() {
-    println!("property maps of {ENTITIES} entities, best of {MAP_ROUNDS} rounds; ratio: original / ours");
-    println!(
-        "| rules | selectors | tags | layers | original entities/s | ours entities/s | ratio | ours, tables checked alone |"
-    );
-    println!("|---|---|---|---|---|---|---|---|");
-    for count in [20, 200, 800] {
-        let bundle = bundles::single(&rules_text(count));
-        let sheet = Sheet::load(&mut Files::new(), bundle).expect("a sheet for timing");
+    for count in RULES {
+        let sheet = rules_sheet(count, true);
         let numbered = sheet.original.as_ref().unwrap();
-        let r = &mut Random::new(1, 1);
-        let mut entities: Vec<(Entity, u8)> = Vec::new();
-        while entities.len() < ENTITIES {
-            let (entity, _) = random_entity(r, &sheet.load);
-            let zoom = r.between(8, 18) as u8;
-            let few = entity.tags.len() <= MOST_TAGS;
-            if few && sheet.expected(&entity, zoom, &mut Tally::default()).is_ok() {
-                entities.push((entity, zoom));
-            }
-        }
+        let entities = entities_for(&sheet, |e, zoom| sheet.expected(e, zoom, &mut Tally::default()).is_ok());
         let all: Vec<Entity> = entities.iter().map(|(entity, _)| entity.clone()).collect();
         let reader = reader::reader(&all);
         let found: Vec<_> = reader::entities(&reader, &all).into_iter().zip(entities.iter().map(|e| e.1)).collect();
         let bytes: Vec<_> = entities.iter().map(|(entity, zoom)| (entities::bytes(entity), *zoom)).collect();
-        let tags: usize = all.iter().map(|entity| entity.tags.len()).sum();
+        let counted = || found.iter().map(|(e, zoom)| numbered.count(e, *zoom)).sum::<usize>();
+        let layers = counted();
+        let row = Row {
+            what: "property maps, entity",
+            size: size_of_sheet(&sheet),
+            units: ENTITIES,
+            lent: MAPS + OUT,
+            rounds: MAP_ROUNDS,
+        };
+        row.contest(
+            |side| side.round(&(), |()| counted()),
+            |side| side.round(&bytes[..], |bytes| our_layers(&sheet, bytes, 0).unwrap_or(layers)),
+        );
         // refused with 7 as soon as the tables are found sound
         let none = vec![(Vec::new(), 0); ENTITIES];
-        let (mut original, mut ours, mut tables) = (Best::new(), Best::new(), Best::new());
-        for _ in 0..MAP_ROUNDS {
-            tables.round(&none[..], |none| our_layers(&sheet, none, 7).unwrap_or(0));
-            original.round(&found[..], |found| found.iter().map(|(e, zoom)| numbered.count(e, *zoom)).sum::<usize>());
-            ours.round(&bytes[..], |bytes| our_layers(&sheet, bytes, 0).unwrap_or(original.count));
-        }
-        assert_eq!(original.count, ours.count);
-        let speed = |best: &Best| ENTITIES as f64 / best.seconds;
-        println!(
-            "| {count} | {} | {tags} | {} | {:.0} | {:.0} | {:.2} | {:.0} |",
-            sheet.handed.counts[1],
-            original.count,
-            speed(&original),
-            speed(&ours),
-            original.seconds / ours.seconds,
-            speed(&tables),
-        );
+        let mut alone = Side::default();
+        (0..MAP_ROUNDS).for_each(|_| alone.round(&none[..], |none| our_layers(&sheet, none, 7).unwrap_or(0)));
+        println!("| the tables judged alone, call | {} | | {:.1} | | | |", size_of_sheet(&sheet), alone.ns(ENTITIES));
     }
 }
 
@@ -224,71 +293,6 @@ fn our_layers(sheet: &Sheet, entities: &[(Vec<u8>, u8)], answer: u64) -> Option<
 #[cfg(not(feature = "rattle"))]
 fn our_layers(_: &Sheet, _: &[(Vec<u8>, u8)], _: u64) -> Option<usize> {
     None
-}
-
-/// A rule, a definition or an import at the top of a sheet, with the blanks and remarks before it.
-struct Item {
-    text: String,
-    defines: Option<String>,
-    uses: Vec<String>,
-    imports: bool,
-}
-
-fn items(sheet: &str) -> Vec<Item> {
-    let mut all = Vec::new();
-    let (mut from, mut depth) = (0, 0);
-    let fresh = || Item { text: String::new(), defines: None, uses: Vec::new(), imports: false };
-    let mut item = fresh();
-    for step in tokens::original(sheet) {
-        match (tokens::KINDS[step.kind as usize], step.payload) {
-            ("LeftBrace", _) => depth += 1,
-            ("RightBrace", _) => depth -= 1,
-            ("Import", _) => item.imports = true,
-            ("ColorRef", Payload::Range(a, b)) if depth == 0 => item.defines = Some(sheet[a..b].to_string()),
-            ("ColorRef", Payload::Range(a, b)) => item.uses.push(sheet[a..b].to_string()),
-            _ => {}
-        }
-        if depth == 0 && ["RightBrace", "SemiColon"].contains(&tokens::KINDS[step.kind as usize]) {
-            let to = step.cursor.unwrap().at;
-            item.text = sheet[from..to].to_string();
-            all.push(std::mem::replace(&mut item, fresh()));
-            from = to;
-        }
-    }
-    all
-}
-
-pub struct Best {
-    pub count: usize,
-    pub seconds: f64,
-}
-
-impl Best {
-    pub fn new() -> Best {
-        Best { count: 0, seconds: f64::INFINITY }
-    }
-
-    /// What `read` makes is dropped after the clock has stopped.
-    pub fn round<T: ?Sized, R: Into<Read>>(&mut self, text: &T, mut read: impl FnMut(&T) -> R) {
-        let start = Instant::now();
-        let made = black_box(read(black_box(text)));
-        self.seconds = self.seconds.min(start.elapsed().as_secs_f64());
-        self.count = made.into().0;
-    }
-}
-
-pub struct Read(usize);
-
-impl From<usize> for Read {
-    fn from(n: usize) -> Read {
-        Read(n)
-    }
-}
-
-impl<T> From<Vec<T>> for Read {
-    fn from(all: Vec<T>) -> Read {
-        Read(all.len())
-    }
 }
 
 fn original_rules(text: &str) -> Vec<crate::mapcss::parser::Rule> {

@@ -51,9 +51,9 @@ pub fn all_short(beginning: &str, most: usize, run: &mut impl FnMut(&str)) {
     }
 }
 
-/// Each character of Unicode before a name and in an import: is it a blank, how wide is it.
-pub fn every_character(run: &mut impl FnMut(&str)) {
-    for c in '\0'..=char::MAX {
+/// Each character of these numbers before a name and in an import: is it a blank, how wide is it.
+pub fn every_character(numbers: std::ops::RangeInclusive<u32>, run: &mut impl FnMut(&str)) {
+    for c in numbers.filter_map(char::from_u32) {
         run(&format!("{c}a"));
         run(&format!("@import{c}\"a\"{c};"));
     }

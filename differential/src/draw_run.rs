@@ -6,17 +6,17 @@ use crate::draws::{entries, model, Answer, Call, Drawn, Tally};
 use crate::entities::{self, Entity};
 use crate::geodata::reader::probe as reader;
 use crate::load_cases::random_bundle;
-use crate::load_run::{cut, sheet_bundles, Files};
+use crate::load_run::{cut, Files};
 use crate::loads::Refusal;
 use crate::map_cases::{padded, sound_tables, spoilt, wide_sheet};
-use crate::map_run::Sheet;
+use crate::map_run::{spelt, Sheet};
 use crate::maps::Handed;
 use crate::random::Random;
-use crate::run::{shrunk, SHOWN};
+use crate::run::{shrunk, Part, Plan, Tries};
+use crate::sheets;
 use crate::style_cases::{style_sheet, tied_sheet, twisted};
-use crate::style_run::{spelt, unlike, PATIENCE};
+use crate::style_run::unlike;
 use crate::styles::decode;
-use std::time::Instant;
 
 /// Lists made for one sheet.
 const CALLS: usize = 4;
@@ -111,33 +111,17 @@ fn judged(sheet: &mut Sheet, handed: &Handed, call: &Call, shared: bool, tally: 
     judged
 }
 
-struct Run {
-    cases: u64,
-    compared: u64,
-    cached: [u64; 2],
-    differences: u64,
-    tally: Tally,
-    files: Files,
-}
-
-impl Run {
-    fn differs(&mut self, text: impl FnOnce(&mut Files) -> String) {
-        self.differences += 1;
-        if self.differences <= SHOWN {
-            let text = text(&mut self.files);
-            println!("difference {}: {text}", self.differences);
-        }
-    }
-
+impl Part<Tally> {
     /// A sheet's tables as loaded, perhaps with more behind the counts. The cache of the original finds much where equal
     /// strings share a place, and next to nothing where they do not.
-    fn case(&mut self, sheet: &mut Sheet, handed: &Handed, call: &Call, shared: bool) {
+    pub fn case(&mut self, sheet: &mut Sheet, handed: &Handed, call: &Call, shared: bool) {
         self.cases += 1;
         let judged = judged(sheet, handed, call, shared, &mut self.tally);
         self.compared += u64::from(judged.compared);
-        self.cached[usize::from(shared)] += judged.cached as u64;
+        self.tally.cached(shared, judged.cached);
         if let Some(what) = judged.what {
-            self.differs(|files| shown(files, sheet, call, shared, &what));
+            let (bundle, call) = (sheet.bundle.clone(), call.clone());
+            self.differs(move || shown(&bundle, &call, shared, &what));
         }
     }
 
@@ -148,7 +132,8 @@ impl Run {
         if let Some(what) = unlike(&expected, ours(bundle, handed, call)) {
             let bundle = bundle.escape_ascii();
             let call = format!("{call:?}");
-            self.differs(|_| format!("{about}: {}, bundle {bundle}, {handed:?}: {what}", cut(&call)));
+            let text = format!("{about}: {}, bundle {bundle}, {handed:?}: {what}", cut(&call));
+            self.differs(|| text);
         }
     }
 
@@ -171,7 +156,8 @@ impl Run {
                 got.map(|list| list.iter().map(|e| e.map(|n| n.to_string()).join(".")).collect::<Vec<_>>().join(" "));
             if got.as_deref() != example.answer.as_ref().copied() {
                 let (text, answer) = (&example.sheet, &example.answer);
-                self.differs(|_| format!("example {text:?}, {call:?}: expected {answer:?}, the model has {got:?}"));
+                let text = format!("example {text:?}, {call:?}: expected {answer:?}, the model has {got:?}");
+                self.differs(|| text);
             }
         }
         for (text, call, answer) in limits() {
@@ -187,64 +173,40 @@ impl Run {
             if got != answer {
                 let lengths: Vec<_> = call.streams.iter().map(Vec::len).collect();
                 let lent = call.lent;
-                self.differs(|_| {
-                    format!(
-                        "limits {text:?}, {lengths:?} bytes, {lent} lent: expected {answer:?}, the model has {got:?}"
-                    )
-                });
+                let about = format!("limits {text:?}, {lengths:?} bytes, {lent} lent");
+                self.differs(move || format!("{about}: expected {answer:?}, the model has {got:?}"));
             }
         }
     }
 
-    /// At least so many cases for random bundles; hands back how many of these.
-    fn random(&mut self, seed: u64, count: u64) -> u64 {
-        let until = self.cases + count;
-        let mut index = 0;
-        while self.cases < until {
-            let r = &mut Random::new(seed, index);
-            index += 1;
-            let bundle = match index % 12 {
-                0 => bundles::single(&wide_sheet(r)),
-                1 => random_bundle(r),
-                2..=5 => bundles::single(&tied_sheet(r)),
-                _ => bundles::single(&style_sheet(r)),
-            };
-            if let Some(mut sheet) = Sheet::load(&mut self.files, bundle) {
-                self.calls(r, &mut sheet, CALLS);
-            }
+    fn sheet(&mut self, r: &mut Random, bundle: Vec<u8>, calls: usize) {
+        if let Some(mut sheet) = Sheet::load(&mut self.files, bundle) {
+            self.calls(r, &mut sheet, calls);
         }
-        index
     }
 
-    fn random_tables(&mut self, seed: u64, count: u64) {
-        let until = self.cases + count;
-        let mut index = 0;
-        while self.cases < until {
-            let r = &mut Random::new(seed, u64::MAX / 2 + index);
-            index += 1;
-            let Some(sheet) = Sheet::load(&mut self.files, bundles::single(&style_sheet(r))) else { continue };
-            let call = random_call(r, &sheet);
-            if index % 500 == 1 {
-                spoilt(&sheet.handed, sheet.bundle.len(), &mut |about, handed| {
-                    self.call(&sheet.bundle, handed, &call, about);
-                });
-                continue;
-            }
-            for _ in 0..CALLS {
-                let tables = twisted(r, &sheet.handed, sheet.bundle.len());
-                self.call(&sheet.bundle, &tables, &call, "twisted tables");
-            }
-            let tables = sound_tables(r, sheet.bundle.len());
-            self.call(&sheet.bundle, &tables, &call, "sound tables");
+    fn random_tables(&mut self, r: &mut Random, index: u64) {
+        let Some(sheet) = Sheet::load(&mut self.files, bundles::single(&style_sheet(r))) else { return };
+        let call = random_call(r, &sheet);
+        if index % 500 == 0 {
+            return spoilt(&sheet.handed, sheet.bundle.len(), &mut |about, handed| {
+                self.call(&sheet.bundle, handed, &call, about);
+            });
         }
+        for _ in 0..CALLS {
+            let tables = twisted(r, &sheet.handed, sheet.bundle.len());
+            self.call(&sheet.bundle, &tables, &call, "twisted tables");
+        }
+        let tables = sound_tables(r, sheet.bundle.len());
+        self.call(&sheet.bundle, &tables, &call, "sound tables");
     }
 }
 
 /// A differing case with its entities and its first text cut down as far as it still differs.
-fn shown(files: &mut Files, sheet: &Sheet, call: &Call, shared: bool, what: &str) -> String {
-    let until = Instant::now() + PATIENCE;
-    let texts = bundles::texts(&sheet.bundle);
-    let files = std::cell::RefCell::new(files);
+fn shown(bundle: &[u8], call: &Call, shared: bool, what: &str) -> String {
+    let tries = Tries::new();
+    let texts = bundles::texts(bundle);
+    let files = std::cell::RefCell::new(Files::new());
     let differs = |text: &str, call: &Call| {
         let mut texts = texts.clone();
         texts[0].1 = text;
@@ -257,19 +219,16 @@ fn shown(files: &mut Files, sheet: &Sheet, call: &Call, shared: bool, what: &str
     let mut streams = call.entities().unwrap_or_default();
     for stream in 0..streams.len() {
         for k in (0..streams[stream].len()).rev() {
-            if Instant::now() >= until {
-                break;
-            }
             let mut fewer = streams.clone();
             fewer[stream].remove(k);
             let mut other = call.clone();
             other.streams[stream] = fewer[stream].iter().flat_map(entities::bytes).collect();
-            if differs(texts[0].1, &other).is_some() {
+            if tries.take() && differs(texts[0].1, &other).is_some() {
                 (streams, call) = (fewer, other);
             }
         }
     }
-    let small = shrunk(texts[0].1, &|text| Instant::now() < until && differs(text, &call).is_some());
+    let small = shrunk(texts[0].1, &|text| tries.take() && differs(text, &call).is_some());
     let what = differs(&small, &call).unwrap_or(what.to_string());
     let spelt: Vec<Vec<_>> = streams.iter().map(|all| all.iter().take(20).map(spelt).collect()).collect();
     let Call { zoom, settings, for_labels, lent, .. } = &call;
@@ -282,41 +241,23 @@ fn shown(files: &mut Files, sheet: &Sheet, call: &Call, shared: bool, what: &str
     )
 }
 
-/// `count` random lists of the seed, and half as many with other tables.
-pub fn run(seed: u64, count: u64) -> bool {
-    let mut run =
-        Run { cases: 0, compared: 0, cached: [0; 2], differences: 0, tally: Tally::default(), files: Files::new() };
-    run.written();
-    println!("{} written cases", run.cases);
-
-    let r = &mut Random::new(seed, u64::MAX);
-    let before = run.cases;
-    for texts in sheet_bundles() {
-        let mut sheet = Sheet::load(&mut run.files, bundles::of(&texts)).expect("a sheet");
-        run.calls(r, &mut sheet, 20 + count as usize / 200);
-    }
-    println!("{} lists for the sheets", run.cases - before);
-
-    let before = run.cases;
-    let sheets = run.random(seed, count);
-    println!("{} lists for {sheets} random bundles of seed {seed}", run.cases - before);
-
-    let before = run.cases;
-    run.random_tables(seed, count / 2);
-    println!("{} lists with twisted, sound or spoilt tables", run.cases - before);
-
-    let mut all_met = run.tally.print();
-    let [apart, shared] = run.cached;
-    println!("entities whose styles the original took from its cache: {shared} with shared strings, {apart} without");
-    all_met &= shared > 0;
-    if !all_met {
-        println!("a criterion, a length, a refusal or a shape never came up");
-    }
-    println!("{} of {} lists have an answer of the original", run.compared, run.cases);
-    if cfg!(not(feature = "rattle")) {
-        println!("{} lists, {} differences of the model, ours not compared", run.cases, run.differences);
-        return false;
-    }
-    println!("{} lists, {} differences", run.cases, run.differences);
-    all_met && run.differences == 0
+/// Lists for the sheets and for random bundles, about `count`, and half as many with other tables.
+pub fn plan(plan: &mut Plan, count: u64) {
+    plan.one("draws: written", |run| run.draws.written());
+    let sheets = sheets::bundles();
+    plan.many("draws: sheets", sheets.len() as u64 * (2 + count / 2_000), 4, |run, r, index| {
+        run.draws.sheet(r, bundles::of(&sheets[index as usize % sheets.len()]), 10);
+    });
+    plan.many("draws: random bundles", count / CALLS as u64, 250, |run, r, index| {
+        let bundle = match index % 12 {
+            0 => bundles::single(&wide_sheet(r)),
+            1 => random_bundle(r),
+            2..=5 => bundles::single(&tied_sheet(r)),
+            _ => bundles::single(&style_sheet(r)),
+        };
+        run.draws.sheet(r, bundle, CALLS);
+    });
+    plan.many("draws: twisted, sound or spoilt tables", count / 3 / CALLS as u64, 100, |run, r, index| {
+        run.draws.random_tables(r, index);
+    });
 }

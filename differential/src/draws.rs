@@ -6,8 +6,9 @@ use crate::loads::Refusal;
 use crate::maps::{self, Handed};
 use crate::style_tally;
 use crate::styles::{rows, Row, Settings};
-use crate::tally::Line;
+use crate::tally::{self, Line};
 use std::cmp::Ordering;
+use std::sync::OnceLock;
 
 pub const MOST_ENTRIES: usize = 4_096;
 
@@ -154,8 +155,9 @@ pub fn entries(answer: &Result<Vec<Drawn>, Refusal>) -> Answer {
 
 const RANKS: [&str; 5] = ["layer", "fill", "z-index", "id", "input"];
 const LENGTHS: [&str; 7] = ["0", "1", "2 to 9", "10 to 99", "100 to 999", "1000 to 4095", "4096"];
-const REFUSALS: [&str; 14] =
-    ["22", "25", "7", "7 at 0", "7 1", "7 1 at 0", "2", "2 1", "8", "8 1", "9", "9 1", "23 or 24", "23 or 24 1"];
+/// The number, 1 for the stream of multipolygons, and whether it is the first entity.
+const REFUSALS: [&str; 16] =
+    ["22", "25", "7", "7 at 0", "7 1", "7 1 at 0", "2", "2 1", "8", "8 1", "9", "9 1", "23", "23 1", "24", "24 1"];
 const SHAPES: [&str; 18] = [
     "nodes",
     "areas",
@@ -178,6 +180,7 @@ const SHAPES: [&str; 18] = [
 ];
 
 /// How often each criterion decided between neighbours, and so on.
+#[derive(Clone)]
 pub struct Tally {
     pub styles: style_tally::Tally,
     ranks: Line,
@@ -185,18 +188,22 @@ pub struct Tally {
     lengths: Line,
     refused: Line,
     shapes: Line,
+    cached: Line,
 }
 
 impl Default for Tally {
     fn default() -> Tally {
-        Tally {
+        static EMPTY: OnceLock<Tally> = OnceLock::new();
+        let empty = || Tally {
             styles: style_tally::Tally::default(),
             ranks: Line::new("neighbours told apart by", RANKS),
             label_ranks: Line::new("for labels by", RANKS.into_iter().filter(|name| *name != "fill")),
-            lengths: Line::new("lengths", LENGTHS),
+            lengths: Line::new("length", LENGTHS),
             refused: Line::new("refused", REFUSALS),
-            shapes: Line::new("shapes", SHAPES),
-        }
+            shapes: Line::new("shape", SHAPES),
+            cached: Line::new("styles from the original's cache", ["strings apart", "strings shared"]),
+        };
+        EMPTY.get_or_init(empty).clone()
     }
 }
 
@@ -206,10 +213,8 @@ impl Tally {
             Ok(list) => list,
             Err(refusal) => {
                 let place = if refusal[0] == 7 && refusal[2] == 0 { " at 0" } else { "" };
-                let number = if refusal[0] == 24 { 23 } else { refusal[0] };
-                let number = if number == 23 { "23 or 24".to_string() } else { number.to_string() };
                 let stream = if refusal[1] == 1 { " 1" } else { "" };
-                self.refused.named(&format!("{number}{stream}{place}"));
+                self.refused.named(&format!("{}{stream}{place}", refusal[0]));
                 return;
             }
         };
@@ -268,10 +273,15 @@ impl Tally {
         met("one entity's layers apart", same_entity && a.entry[2].abs_diff(b.entry[2]) > 1);
     }
 
-    /// Prints all counts; false if one is 0.
-    pub fn print(&self) -> bool {
-        let lines = [&self.ranks, &self.label_ranks, &self.lengths, &self.refused, &self.shapes];
-        // all are printed
-        lines.iter().map(|line| line.print()).fold(true, |met, all| met & all)
+    /// So many entities took their styles from the original's cache.
+    pub fn cached(&mut self, shared: bool, entities: usize) {
+        self.cached.met_often(usize::from(shared), entities as u64);
+    }
+}
+
+impl tally::Tally for Tally {
+    fn lines(&mut self) -> Vec<&mut Line> {
+        let Tally { ranks, label_ranks, lengths, refused, shapes, cached, .. } = self;
+        vec![ranks, label_ranks, lengths, refused, shapes, cached]
     }
 }

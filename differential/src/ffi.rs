@@ -1,11 +1,15 @@
-//! The exports of crates capi_token, capi and capi_maps, one safe wrapper for each. Nothing checks these declarations
-//! against the Rattle source; the codes stand at the top of each crate's src/lib.rt.
+//! The exports of crate capi_token, and of crate capi the loads and property maps, one safe wrapper for each. Nothing checks
+//! these declarations against the Rattle source; the codes stand at the top of each crate's src/lib.rt.
 
 use crate::loads::{stride, Filled, Lent, Tables, NUMBERS};
 use crate::maps::{Answer, Handed, Layer};
 use crate::tokens::{bits, Cursor, Payload, Step, END, ERROR, KINDS};
 
-#[link(name = "capi_token", kind = "static")]
+/// The declarations of capi's exports.
+#[allow(dead_code)]
+#[path = "../../bindings/rust/src/raw.rs"]
+pub mod raw;
+
 extern "C" {
     fn mapcss_next_token(
         s: *const u8,
@@ -18,54 +22,6 @@ extern "C" {
         out_len: usize,
         number: *mut f64,
         number_len: usize,
-    ) -> u64;
-}
-
-#[link(name = "capi", kind = "static")]
-extern "C" {
-    fn mapcss_load(
-        bundle: *const u8,
-        bundle_len: usize,
-        rules: *mut u32,
-        rules_len: usize,
-        selectors: *mut u32,
-        selectors_len: usize,
-        tests: *mut u32,
-        tests_len: usize,
-        properties: *mut u32,
-        properties_len: usize,
-        numbers: *mut f64,
-        numbers_len: usize,
-        colors: *mut u32,
-        colors_len: usize,
-        out: *mut u64,
-        out_len: usize,
-    ) -> u64;
-}
-
-#[link(name = "capi_maps", kind = "static")]
-extern "C" {
-    fn mapcss_property_maps(
-        bundle: *const u8,
-        bundle_len: usize,
-        rules: *const u32,
-        rules_len: usize,
-        selectors: *const u32,
-        selectors_len: usize,
-        tests: *const u32,
-        tests_len: usize,
-        properties: *const u32,
-        properties_len: usize,
-        numbers: *const f64,
-        numbers_len: usize,
-        counts: *const u64,
-        counts_len: usize,
-        zoom: u8,
-        entity: *const u8,
-        entity_len: usize,
-        maps: *mut u32,
-        out: *mut u64,
-        out_len: usize,
     ) -> u64;
 }
 
@@ -161,29 +117,16 @@ impl LoadRoom {
 
 /// One load as it comes, for timing.
 pub fn raw_load(bundle: &[u8], lent: &Lent, room: &mut LoadRoom) -> u64 {
-    assert!((0..6).all(|table| table == NUMBERS || lent[table] <= room.words[table].len()));
-    assert!(lent[NUMBERS] <= room.numbers.len());
     let [rules, selectors, tests, properties, _, colors] = &mut room.words;
-    unsafe {
-        mapcss_load(
-            bundle.as_ptr(),
-            bundle.len(),
-            rules.as_mut_ptr(),
-            lent[0],
-            selectors.as_mut_ptr(),
-            lent[1],
-            tests.as_mut_ptr(),
-            lent[2],
-            properties.as_mut_ptr(),
-            lent[3],
-            room.numbers.as_mut_ptr(),
-            lent[4],
-            colors.as_mut_ptr(),
-            lent[5],
-            room.out.as_mut_ptr(),
-            6,
-        )
-    }
+    let tables = raw::Room {
+        rules: &mut rules[..lent[0]],
+        selectors: &mut selectors[..lent[1]],
+        tests: &mut tests[..lent[2]],
+        properties: &mut properties[..lent[3]],
+        numbers: &mut room.numbers[..lent[NUMBERS]],
+        colors: &mut colors[..lent[5]],
+    };
+    raw::load(bundle, tables, &mut room.out[..6])
 }
 
 /// The entries or the refusal; or what the call did wrong with the memory lent.
@@ -238,8 +181,8 @@ pub fn load(bundle: &[u8], lent: &Lent) -> Result<Filled, String> {
 }
 
 /// Words of a layer's row, and of all rows.
-const ROW: usize = 131;
-const WORDS: usize = 33 * ROW;
+const ROW: usize = raw::MAP_WORDS;
+const WORDS: usize = raw::MAPS_WORDS;
 
 /// What mapcss_property_maps writes, with some elements behind it that are not lent.
 pub struct MapRoom {
@@ -254,34 +197,16 @@ impl MapRoom {
     }
 }
 
+/// What is handed to every call but a load.
+pub fn tables<'a>(bundle: &'a [u8], handed: &'a Handed) -> raw::Tables<'a> {
+    let [rules, selectors, tests, properties] = &handed.words;
+    raw::Tables { bundle, rules, selectors, tests, properties, numbers: &handed.numbers, counts: &handed.counts }
+}
+
 /// One call as it comes, for timing.
 pub fn raw_property_maps(bundle: &[u8], handed: &Handed, zoom: u8, entity: &[u8], room: &mut MapRoom) -> u64 {
-    assert!(room.maps.len() >= WORDS);
-    let [rules, selectors, tests, properties] = &handed.words;
-    unsafe {
-        mapcss_property_maps(
-            bundle.as_ptr(),
-            bundle.len(),
-            rules.as_ptr(),
-            rules.len(),
-            selectors.as_ptr(),
-            selectors.len(),
-            tests.as_ptr(),
-            tests.len(),
-            properties.as_ptr(),
-            properties.len(),
-            handed.numbers.as_ptr(),
-            handed.numbers.len(),
-            handed.counts.as_ptr(),
-            handed.counts.len(),
-            zoom,
-            entity.as_ptr(),
-            entity.len(),
-            room.maps.as_mut_ptr(),
-            room.out.as_mut_ptr(),
-            5,
-        )
-    }
+    let maps = (&mut room.maps[..WORDS]).try_into().unwrap();
+    raw::property_maps(tables(bundle, handed), zoom, entity, maps, &mut room.out[..5])
 }
 
 /// The layers or the refusal; or what the call did wrong with the memory lent.

@@ -1,116 +1,11 @@
-//! The exports of crate capi_styles, one safe wrapper for each sort of answer. Nothing checks these declarations against
-//! the Rattle source; the layouts stand at the top of its src/lib.rt.
+//! The exports of crate capi for styles, the canvas colour and drawing lists, one safe wrapper for each sort of answer. The
+//! layouts stand at the top of its src/lib.rt.
 
 use crate::draws::{self, Call};
+use crate::ffi::{raw, tables};
 use crate::maps::{Handed, MOST_LAYERS};
 use crate::styles::{Answer, Canvas, Row, Settings, ROW_FLOATS, ROW_WORDS};
 use crate::tokens::bits;
-
-#[link(name = "capi_styles", kind = "static")]
-extern "C" {
-    fn mapcss_styles(
-        bundle: *const u8,
-        bundle_len: usize,
-        rules: *const u32,
-        rules_len: usize,
-        selectors: *const u32,
-        selectors_len: usize,
-        tests: *const u32,
-        tests_len: usize,
-        properties: *const u32,
-        properties_len: usize,
-        numbers: *const f64,
-        numbers_len: usize,
-        counts: *const u64,
-        counts_len: usize,
-        zoom: u8,
-        style_type: u8,
-        font: *const f64,
-        font_len: usize,
-        entity: *const u8,
-        entity_len: usize,
-        words: *mut u64,
-        floats: *mut f64,
-        layers: *mut i64,
-        out: *mut u64,
-        out_len: usize,
-    ) -> u64;
-    fn mapcss_canvas_color(
-        bundle: *const u8,
-        bundle_len: usize,
-        rules: *const u32,
-        rules_len: usize,
-        selectors: *const u32,
-        selectors_len: usize,
-        tests: *const u32,
-        tests_len: usize,
-        properties: *const u32,
-        properties_len: usize,
-        numbers: *const f64,
-        numbers_len: usize,
-        counts: *const u64,
-        counts_len: usize,
-        style_type: u8,
-        out: *mut u64,
-        out_len: usize,
-    ) -> u64;
-    fn mapcss_style_entities(
-        bundle: *const u8,
-        bundle_len: usize,
-        rules: *const u32,
-        rules_len: usize,
-        selectors: *const u32,
-        selectors_len: usize,
-        tests: *const u32,
-        tests_len: usize,
-        properties: *const u32,
-        properties_len: usize,
-        numbers: *const f64,
-        numbers_len: usize,
-        counts: *const u64,
-        counts_len: usize,
-        zoom: u8,
-        style_type: u8,
-        font: *const f64,
-        font_len: usize,
-        for_labels: bool,
-        nodes: *const u8,
-        nodes_len: usize,
-        list: *mut u32,
-        list_len: usize,
-        out: *mut u64,
-        out_len: usize,
-    ) -> u64;
-    fn mapcss_style_areas(
-        bundle: *const u8,
-        bundle_len: usize,
-        rules: *const u32,
-        rules_len: usize,
-        selectors: *const u32,
-        selectors_len: usize,
-        tests: *const u32,
-        tests_len: usize,
-        properties: *const u32,
-        properties_len: usize,
-        numbers: *const f64,
-        numbers_len: usize,
-        counts: *const u64,
-        counts_len: usize,
-        zoom: u8,
-        style_type: u8,
-        font: *const f64,
-        font_len: usize,
-        for_labels: bool,
-        ways: *const u8,
-        ways_len: usize,
-        multipolygons: *const u8,
-        multipolygons_len: usize,
-        list: *mut u32,
-        list_len: usize,
-        out: *mut u64,
-        out_len: usize,
-    ) -> u64;
-}
 
 const BEHIND: usize = 8;
 const LEFT_WORD: u32 = 0xdead_beef;
@@ -150,37 +45,16 @@ pub fn raw_styles(
     entity: &[u8],
     room: &mut StyleRoom,
 ) -> u64 {
-    assert!(room.words.len() >= WORDS && room.floats.len() >= FLOATS && room.layers.len() >= MOST_LAYERS);
-    let [rules, selectors, tests, properties] = &handed.words;
-    unsafe {
-        mapcss_styles(
-            bundle.as_ptr(),
-            bundle.len(),
-            rules.as_ptr(),
-            rules.len(),
-            selectors.as_ptr(),
-            selectors.len(),
-            tests.as_ptr(),
-            tests.len(),
-            properties.as_ptr(),
-            properties.len(),
-            handed.numbers.as_ptr(),
-            handed.numbers.len(),
-            handed.counts.as_ptr(),
-            handed.counts.len(),
-            zoom,
-            settings.style_type,
-            settings.font.as_ptr(),
-            settings.font.len(),
-            entity.as_ptr(),
-            entity.len(),
-            room.words.as_mut_ptr(),
-            room.floats.as_mut_ptr(),
-            room.layers.as_mut_ptr(),
-            room.out.as_mut_ptr(),
-            5,
-        )
-    }
+    let asked = raw::Asked { zoom, style_type: settings.style_type, font: &settings.font, for_labels: false };
+    raw::styles(
+        tables(bundle, handed),
+        asked,
+        entity,
+        (&mut room.words[..WORDS]).try_into().unwrap(),
+        (&mut room.floats[..FLOATS]).try_into().unwrap(),
+        (&mut room.layers[..MOST_LAYERS]).try_into().unwrap(),
+        &mut room.out[..5],
+    )
 }
 
 /// The styled layers or the refusal; or what the call did wrong with the memory lent.
@@ -220,29 +94,8 @@ pub fn styles(bundle: &[u8], handed: &Handed, zoom: u8, settings: &Settings, ent
 
 /// The colour, if there is one, or the refusal; or what the call did wrong.
 pub fn canvas_color(bundle: &[u8], handed: &Handed, style_type: u8) -> Result<Canvas, String> {
-    let [rules, selectors, tests, properties] = &handed.words;
     let mut out = [u64::MAX; 6];
-    let number = unsafe {
-        mapcss_canvas_color(
-            bundle.as_ptr(),
-            bundle.len(),
-            rules.as_ptr(),
-            rules.len(),
-            selectors.as_ptr(),
-            selectors.len(),
-            tests.as_ptr(),
-            tests.len(),
-            properties.as_ptr(),
-            properties.len(),
-            handed.numbers.as_ptr(),
-            handed.numbers.len(),
-            handed.counts.as_ptr(),
-            handed.counts.len(),
-            style_type,
-            out.as_mut_ptr(),
-            5,
-        )
-    };
+    let number = raw::canvas_color(tables(bundle, handed), style_type, &mut out[..5]);
     let byte = |n: u64| u8::try_from(n).ok();
     match (number, out) {
         (0, [0, 0, 0, 0, 0, u64::MAX]) => Ok(Ok(None)),
@@ -270,70 +123,12 @@ impl ListRoom {
 
 /// One call as it comes, for timing: of nodes, or of ways and multipolygons.
 pub fn raw_draw(bundle: &[u8], handed: &Handed, call: &Call, room: &mut ListRoom) -> u64 {
-    assert!(room.list.len() >= call.lent);
-    let [rules, selectors, tests, properties] = &handed.words;
     let Settings { style_type, font } = &call.settings;
+    let asked = raw::Asked { zoom: call.zoom, style_type: *style_type, font, for_labels: call.for_labels };
+    let (list, out) = (&mut room.list[..call.lent], &mut room.out[..5]);
     match &call.streams[..] {
-        [nodes] => unsafe {
-            mapcss_style_entities(
-                bundle.as_ptr(),
-                bundle.len(),
-                rules.as_ptr(),
-                rules.len(),
-                selectors.as_ptr(),
-                selectors.len(),
-                tests.as_ptr(),
-                tests.len(),
-                properties.as_ptr(),
-                properties.len(),
-                handed.numbers.as_ptr(),
-                handed.numbers.len(),
-                handed.counts.as_ptr(),
-                handed.counts.len(),
-                call.zoom,
-                *style_type,
-                font.as_ptr(),
-                font.len(),
-                call.for_labels,
-                nodes.as_ptr(),
-                nodes.len(),
-                room.list.as_mut_ptr(),
-                call.lent,
-                room.out.as_mut_ptr(),
-                5,
-            )
-        },
-        [ways, multipolygons] => unsafe {
-            mapcss_style_areas(
-                bundle.as_ptr(),
-                bundle.len(),
-                rules.as_ptr(),
-                rules.len(),
-                selectors.as_ptr(),
-                selectors.len(),
-                tests.as_ptr(),
-                tests.len(),
-                properties.as_ptr(),
-                properties.len(),
-                handed.numbers.as_ptr(),
-                handed.numbers.len(),
-                handed.counts.as_ptr(),
-                handed.counts.len(),
-                call.zoom,
-                *style_type,
-                font.as_ptr(),
-                font.len(),
-                call.for_labels,
-                ways.as_ptr(),
-                ways.len(),
-                multipolygons.as_ptr(),
-                multipolygons.len(),
-                room.list.as_mut_ptr(),
-                call.lent,
-                room.out.as_mut_ptr(),
-                5,
-            )
-        },
+        [nodes] => raw::style_entities(tables(bundle, handed), asked, nodes, list, out),
+        [ways, multipolygons] => raw::style_areas(tables(bundle, handed), asked, ways, multipolygons, list, out),
         _ => unreachable!("one stream or two"),
     }
 }

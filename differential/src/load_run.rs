@@ -11,11 +11,11 @@ use crate::mapcss::parser::probe;
 use crate::mapcss::parser::Rule;
 use crate::model;
 use crate::random::Random;
-use crate::run::{shrunk, SHOWN};
+use crate::run::{shrunk, Part, Plan, Run, Tries};
 use crate::sheets;
 use std::fs;
 use std::path::{Path, PathBuf};
-use std::time::{Duration, Instant};
+use std::sync::atomic::{AtomicUsize, Ordering};
 
 /// Room for every sheet that can be loaded.
 pub const ALL: Lent =
@@ -24,28 +24,37 @@ pub const ALL: Lent =
 /// Room for the written examples; a table need not be of whole entries.
 const ENOUGH: Lent = [8 * 600, 8 * 600 + 1, 8 * 600 + 7, 8 * 600 + 3, 600, 8 * 600];
 
-/// A text that is longer is printed as it is, and no text is cut down for longer than this.
-const LONG: usize = 40_000;
-const PATIENCE: Duration = Duration::from_secs(5);
-
-/// The directory from which the original imports: the texts of one bundle behind its first.
+/// The directory from which the original imports: the texts of one bundle behind its first. It is made for the first of
+/// them.
 pub struct Files {
     directory: PathBuf,
     held: Vec<(String, String)>,
+    made: bool,
+}
+
+impl Default for Files {
+    fn default() -> Files {
+        static NUMBER: AtomicUsize = AtomicUsize::new(0);
+        let memory = Path::new("/dev/shm");
+        let parent = if memory.is_dir() { memory.to_path_buf() } else { std::env::temp_dir() };
+        let number = NUMBER.fetch_add(1, Ordering::Relaxed);
+        let directory = parent.join(format!("differential-{}-{number}", std::process::id()));
+        Files { directory, held: Vec::new(), made: false }
+    }
 }
 
 impl Files {
     pub fn new() -> Files {
-        let memory = Path::new("/dev/shm");
-        let parent = if memory.is_dir() { memory.to_path_buf() } else { std::env::temp_dir() };
-        let directory = parent.join(format!("differential-{}", std::process::id()));
-        fs::create_dir_all(&directory).unwrap();
-        Files { directory, held: Vec::new() }
+        Files::default()
     }
 
     fn hold(&mut self, texts: &[(&str, &str)]) {
         if self.held.iter().map(|(name, text)| (&name[..], &text[..])).eq(texts.iter().copied()) {
             return;
+        }
+        if !self.made {
+            fs::create_dir(&self.directory).unwrap();
+            self.made = true;
         }
         for (name, _) in self.held.drain(..) {
             fs::remove_file(self.directory.join(name)).unwrap();
@@ -56,11 +65,11 @@ impl Files {
         }
     }
 
-    /// Holds what the first text may import; none where a name is none of a file.
+    /// Holds what the first text may import; none where a name is none of a file, or names one by a way.
     fn hold_imports(&mut self, texts: &[(&str, &str)]) -> Option<()> {
         if texts[0].1.contains("@import") {
             let no_file = |name: &str| name.contains(['/', '\0']) || [".", ".."].contains(&name);
-            if texts.iter().any(|(name, _)| no_file(name)) {
+            if texts.iter().any(|(name, text)| no_file(name) || text.contains("\"./")) {
                 return None;
             }
             self.hold(&texts[1..]);
@@ -71,7 +80,9 @@ impl Files {
 
 impl Drop for Files {
     fn drop(&mut self) {
-        let _ = fs::remove_dir_all(&self.directory);
+        if self.made {
+            let _ = fs::remove_dir_all(&self.directory);
+        }
     }
 }
 
@@ -108,10 +119,10 @@ fn apart(original: &Result<Load, Refusal>, other: &Result<Load, Refusal>) -> Opt
         }
         _ => original == other,
     };
-    (!same).then(|| format!("\n  original {}\n  other    {}", shown(original), shown(other)))
+    (!same).then(|| format!("\n  original {}\n  other    {}", said(original), said(other)))
 }
 
-fn shown(answer: &Result<Load, Refusal>) -> String {
+fn said(answer: &Result<Load, Refusal>) -> String {
     match answer {
         Err(refusal) => format!("refused {refusal:?}"),
         Ok(load) => cut(&format!("{load:?}")).to_string(),
@@ -175,14 +186,23 @@ pub fn model_is_original(files: &mut Files, bundle: &[u8], expected: &Filled) ->
     original(files, bundle, expected).is_none_or(|original| apart(&original, &model).is_none())
 }
 
-/// What is wrong with a case, if anything is.
-fn difference(files: &mut Files, bundle: &[u8], lent: &Lent, expected: &Filled) -> Option<String> {
+/// Whether the original has an answer, and what is wrong with a case, if anything is.
+fn judged(files: &mut Files, bundle: &[u8], lent: &Lent, expected: &Filled) -> (bool, Option<String>) {
     let original = original(files, bundle, expected);
+    (original.is_some(), difference(original.as_ref(), bundle, lent, expected))
+}
+
+fn difference(
+    original: Option<&Result<Load, Refusal>>,
+    bundle: &[u8],
+    lent: &Lent,
+    expected: &Filled,
+) -> Option<String> {
     let as_values = |filled: &Filled| match filled {
         Ok(tables) => decode(tables, bundle).map(Ok),
         Err(refusal) => Ok(Err(*refusal)),
     };
-    if let Some(original) = &original {
+    if let Some(original) = original {
         let model = as_values(expected).expect("the model's tables");
         if let Some(what) = apart(original, &model) {
             return Some(format!("the model is not the original:{what}"));
@@ -195,77 +215,38 @@ fn difference(files: &mut Files, bundle: &[u8], lent: &Lent, expected: &Filled) 
     if let Some(what) = words_apart(expected, &ours) {
         return Some(format!("our tables: {what}"));
     }
-    let original = original?;
     match as_values(&ours) {
         Err(what) => Some(format!("our tables: {what}")),
-        Ok(ours) => apart(&original, &ours).map(|what| format!("our load: {what}")),
+        Ok(ours) => apart(original?, &ours).map(|what| format!("our load: {what}")),
     }
 }
 
-struct Run {
-    cases: u64,
-    compared: u64,
-    differences: u64,
-    counts: Counts,
-    files: Files,
-}
-
-impl Run {
-    fn case(&mut self, bundle: &[u8], lent: &Lent) {
+impl Part<Counts> {
+    pub fn case(&mut self, bundle: &[u8], lent: &Lent) {
         drop(self.answer(bundle, lent));
     }
 
     /// Compares, and hands back what is expected.
-    fn answer(&mut self, bundle: &[u8], lent: &Lent) -> Filled {
+    pub fn answer(&mut self, bundle: &[u8], lent: &Lent) -> Filled {
         let expected = model::load(bundle, lent);
         self.cases += 1;
-        self.counts.add(&expected);
-        self.compared += u64::from(!engine_alone(&expected));
-        if let Some(what) = difference(&mut self.files, bundle, lent, &expected) {
-            self.differences += 1;
-            if self.differences <= SHOWN {
-                self.show(bundle, lent, &what);
-            }
+        self.tally.add(&expected);
+        let (compared, what) = judged(&mut self.files, bundle, lent, &expected);
+        self.compared += u64::from(compared);
+        if let Some(what) = what {
+            let (bundle, lent) = (bundle.to_vec(), *lent);
+            self.differs(move || shown(&bundle, &lent, &what));
         }
         expected
-    }
-
-    /// Prints a differing case with its first text cut down as far as it still differs.
-    fn show(&mut self, bundle: &[u8], lent: &Lent, what: &str) {
-        let n = self.differences;
-        if bundles::check(bundle).is_err() {
-            let end = bundle.len().min(200);
-            println!("difference {n}: lent {lent:?}, bundle {:?}: {what}", bundle[..end].escape_ascii().to_string());
-            return;
-        }
-        let texts = bundles::texts(bundle);
-        let with = |text: &str| {
-            let mut texts = texts.clone();
-            texts[0].1 = text;
-            bundles::of(&texts)
-        };
-        let files = std::cell::RefCell::new(&mut self.files);
-        let judged = |text: &str| {
-            let bundle = with(text);
-            difference(&mut files.borrow_mut(), &bundle, lent, &model::load(&bundle, lent))
-        };
-        let small = if texts[0].1.len() > LONG {
-            texts[0].1.to_string()
-        } else {
-            let until = Instant::now() + PATIENCE;
-            shrunk(texts[0].1, &|t| Instant::now() < until && judged(t).is_some())
-        };
-        let what = judged(&small).unwrap_or(what.to_string());
-        let small = cut(&small);
-        println!("difference {n}: lent {lent:?}, text 0 {small:?} of {} texts: {what}", texts.len());
     }
 
     /// A case whose answer is written down.
     fn example(&mut self, bundle: &[u8], lent: &Lent, answer: &Result<[usize; 6], Refusal>) {
         let got = self.answer(bundle, lent).map(|tables| tables.counts());
         if got != *answer {
-            self.differences += 1;
-            println!("example {:?}: expected {answer:?}, the model has {got:?}", bundle.escape_ascii().to_string());
+            let text = bundle.escape_ascii().to_string();
+            let text = format!("example {text:?}: expected {answer:?}, the model has {got:?}");
+            self.differs(|| text);
         }
     }
 
@@ -290,6 +271,50 @@ impl Run {
             }
         }
     }
+
+    /// As many entries as a table may use, and one more.
+    fn full(&mut self, table: usize) {
+        for entries in FULL {
+            let bundle = bundles::single(&full(table, entries));
+            let expected: Result<(), u64> = if entries == MOST_ENTRIES { Ok(()) } else { Err(table as u64 + 1) };
+            for more in [0, 9] {
+                let mut lent: Lent = std::array::from_fn(|table| 2 * stride(table));
+                lent[table] = (entries + more) * stride(table) + more;
+                let answer = self.answer(&bundle, &lent);
+                assert_eq!(answer.map(drop).map_err(|refusal| refusal[1]), expected, "{}", TABLES[table]);
+            }
+        }
+    }
+
+    /// A sheet with room for all, and with just enough.
+    fn sheet(&mut self, bundle: &[u8]) {
+        if let Ok(tables) = self.answer(bundle, &ALL) {
+            self.case(bundle, &tables.just_enough());
+        }
+    }
+}
+
+/// A differing case with its first text cut down as far as it still differs.
+fn shown(bundle: &[u8], lent: &Lent, what: &str) -> String {
+    if bundles::check(bundle).is_err() {
+        let end = bundle.len().min(200);
+        return format!("lent {lent:?}, bundle {:?}: {what}", bundle[..end].escape_ascii().to_string());
+    }
+    let texts = bundles::texts(bundle);
+    let with = |text: &str| {
+        let mut texts = texts.clone();
+        texts[0].1 = text;
+        bundles::of(&texts)
+    };
+    let files = std::cell::RefCell::new(Files::new());
+    let differs = |text: &str| {
+        let bundle = with(text);
+        judged(&mut files.borrow_mut(), &bundle, lent, &model::load(&bundle, lent)).1
+    };
+    let tries = Tries::new();
+    let small = shrunk(texts[0].1, &|text| tries.take() && differs(text).is_some());
+    let what = differs(&small).unwrap_or(what.to_string());
+    format!("lent {lent:?}, text 0 {:?} of {} texts: {what}", cut(&small), texts.len())
 }
 
 /// All cases whose answer is written down.
@@ -331,108 +356,52 @@ pub fn random_lent(r: &mut Random, bundle: &[u8]) -> Lent {
     lent
 }
 
-/// A sheet's bundle: the sheet, then all that it imports, wherever they stand.
-pub fn sheet_bundles() -> Vec<Vec<(String, String)>> {
-    let (names, texts) = (sheets::names(), sheets::texts());
-    let mut all = Vec::new();
-    for first in 0..names.len() {
-        let mut members = vec![first];
-        let mut at = 0;
-        while at < members.len() {
-            for k in 0..names.len() {
-                if !members.contains(&k) && texts[members[at]].contains(&format!("\"{}\"", names[k])) {
-                    members.push(k);
-                }
-            }
-            at += 1;
-        }
-        all.push(members.iter().map(|&k| (names[k].clone(), texts[k].clone())).collect());
-    }
-    all
+/// A copy of a sheet with one byte changed, dropped or doubled.
+fn damaged_sheet(r: &mut Random) -> Vec<u8> {
+    let texts = &sheets::bundles()[r.below(sheets::bundles().len())];
+    let mut texts: Vec<(&[u8], Vec<u8>)> =
+        texts.iter().map(|(name, text)| (name.as_bytes(), text.clone().into_bytes())).collect();
+    // mostly the sheet itself, not what it imports
+    let which = if r.one_in(4) { r.below(texts.len()) } else { 0 };
+    texts[which].1 = one_byte(r, &texts[which].1);
+    bundles::of(&texts)
 }
 
-/// `count` random bundles of the seed, and a fifth as many damaged sheets.
-pub fn run(seed: u64, count: u64) -> bool {
-    let mut run = Run { cases: 0, compared: 0, differences: 0, counts: Counts::default(), files: Files::new() };
-    for (bundle, lent, answer) in examples() {
-        run.example(&bundle, &lent, &answer);
-    }
-    cases::EXAMPLES.iter().for_each(|text| run.case(&bundles::single(text), &ENOUGH));
-    println!("{} written cases", run.cases);
-
-    let small: Lent = std::array::from_fn(|table| 4 * stride(table) + stride(table) / 2);
-    let before = run.cases;
-    let mut sequence = |text: &str| run.case(&bundles::of(&[("t0", text), ("t1", IMPORTED)]), &small);
-    all_sequences("", 4, &mut sequence);
-    for beginning in BEGINNINGS {
-        all_sequences(beginning, 3, &mut sequence);
-    }
-    println!("{} sequences over {} tokens", run.cases - before, TOKENS.len());
-
-    let sheets = sheet_bundles();
-    for texts in &sheets {
-        let bundle = bundles::of(texts);
-        let answer = run.answer(&bundle, &ALL);
-        let counts = answer.as_ref().map(|tables| tables.counts());
-        println!("{}: {} bytes in {} texts, {counts:?}", texts[0].0, bundle.len(), texts.len());
-        if let Ok(tables) = answer {
-            run.case(&bundle, &tables.just_enough());
+/// All short sequences, the sheets, all capacities, `count` random bundles and a fifth as many damaged sheets.
+pub fn plan(plan: &mut Plan, count: u64) {
+    plan.one("loads: written", |run| {
+        examples().iter().for_each(|(bundle, lent, answer)| run.loads.example(bundle, lent, answer));
+        cases::EXAMPLES.iter().for_each(|text| run.loads.case(&bundles::single(text), &ENOUGH));
+    });
+    let sequences = |beginning: String| {
+        move |run: &mut Run| {
+            let small: Lent = std::array::from_fn(|table| 4 * stride(table) + stride(table) / 2);
+            let mut sequence = |text: &str| run.loads.case(&bundles::of(&[("t0", text), ("t1", IMPORTED)]), &small);
+            all_sequences(&beginning, 3, &mut sequence);
         }
+    };
+    TOKENS.iter().for_each(|token| plan.one("loads: sequences of tokens", sequences(format!(" {token}"))));
+    BEGINNINGS.iter().for_each(|text| plan.one("loads: sequences behind a beginning", sequences(text.to_string())));
+    for texts in sheets::bundles() {
+        plan.one("loads: sheets", |run| run.loads.sheet(&bundles::of(texts)));
     }
-
-    let before = run.cases;
+    let capacities = "loads: capacities";
     for text in ENTRIES {
-        run.capacities(&bundles::single(text), 1);
+        plan.one(capacities, move |run| run.loads.capacities(&bundles::single(text), 1));
     }
-    run.capacities(&bundles::of(&[("t0", "@import(\"t1\");@import(\"t1\");way{b:2;}"), ("t1", ENTRIES[0])]), 1);
-    for (texts, step) in [("palette.mapcss", 1), ("huts.mapcss", 5)] {
-        let texts = sheets.iter().find(|bundle| bundle[0].0 == texts).expect("a sheet");
-        run.capacities(&bundles::of(texts), step);
+    let twice = bundles::of(&[("t0", "@import(\"t1\");@import(\"t1\");way{b:2;}"), ("t1", ENTRIES[0])]);
+    plan.one(capacities, move |run| run.loads.capacities(&twice, 1));
+    for (name, step) in [("palette.mapcss", 1), ("huts.mapcss", 5)] {
+        let texts = sheets::bundles().iter().find(|bundle| bundle[0].0 == name).expect("a sheet");
+        plan.one(capacities, move |run| run.loads.capacities(&bundles::of(texts), step));
     }
-    for table in 0..6 {
-        for entries in FULL {
-            let bundle = bundles::single(&full(table, entries));
-            let expected: Result<(), u64> = if entries == MOST_ENTRIES { Ok(()) } else { Err(table as u64 + 1) };
-            for more in [0, 9] {
-                let mut lent: Lent = std::array::from_fn(|table| 2 * stride(table));
-                lent[table] = (entries + more) * stride(table) + more;
-                let answer = run.answer(&bundle, &lent);
-                assert_eq!(answer.map(drop).map_err(|refusal| refusal[1]), expected, "{}", TABLES[table]);
-            }
-        }
-    }
-    println!("{} cases of capacities", run.cases - before);
-
-    for index in 0..count {
-        let r = &mut Random::new(seed, index);
+    (0..6).for_each(|table| plan.one(capacities, move |run| run.loads.full(table)));
+    plan.many("loads: random bundles", count, 2_000, |run, r, _| {
         let bundle = random_bundle(r);
-        let lent = random_lent(r, &bundle);
-        run.case(&bundle, &lent);
-    }
-    println!("{count} random bundles of seed {seed}");
-    for index in 0..count / 5 {
-        let r = &mut Random::new(seed, u64::MAX - index);
-        let texts = &sheets[r.below(sheets.len())];
-        let mut texts: Vec<(&[u8], Vec<u8>)> =
-            texts.iter().map(|(name, text)| (name.as_bytes(), text.clone().into_bytes())).collect();
-        // mostly the sheet itself, not what it imports
-        let which = if r.one_in(4) { r.below(texts.len()) } else { 0 };
-        texts[which].1 = one_byte(r, &texts[which].1);
-        let bundle = bundles::of(&texts);
-        let lent = random_lent(r, &bundle);
-        run.case(&bundle, &lent);
-    }
-    println!("{} damaged sheets of seed {seed}", count / 5);
-
-    let all_met = run.counts.print();
-    if !all_met {
-        println!("a refusal, a kind or a shape never came up");
-    }
-    println!("{} of {} loads have an answer of the original", run.compared, run.cases);
-    if cfg!(not(feature = "rattle")) {
-        println!("{} loads, {} differences of the model, ours not compared", run.cases, run.differences);
-        return false;
-    }
-    println!("{} loads, {} differences", run.cases, run.differences);
-    all_met && run.differences == 0
+        run.loads.case(&bundle, &random_lent(r, &bundle));
+    });
+    plan.many("loads: damaged sheets", count / 5, 100, |run, r, _| {
+        let bundle = damaged_sheet(r);
+        run.loads.case(&bundle, &random_lent(r, &bundle));
+    });
 }

@@ -1,5 +1,6 @@
 //! Loads: one neutral form for the rules of both parsers, and our six tables as docs/TABLES.md lays them out.
 
+use crate::tally::{Line, Tally};
 use std::collections::BTreeMap;
 use std::ops::Range;
 
@@ -226,17 +227,10 @@ impl Decoder<'_> {
 
 /// Numbers with their last reason; 0 where there is none.
 const REFUSALS: [(u64, u64); 8] = [(1, 0), (2, 0), (3, 12), (4, 6), (5, 0), (6, 0), (20, 6), (21, 0)];
-
-/// How often each refusal, object type, kind of test and kind of value came up, and some shapes.
-#[derive(Default)]
-pub struct Counts {
-    loads: u64,
-    refusals: BTreeMap<(u64, u64), u64>,
-    types: [u64; 7],
-    tests: [u64; 13],
-    values: [u64; 7],
-    shapes: [u64; 8],
-}
+const TYPES: [&str; 6] = ["*", "canvas", "meta", "node", "way", "area"];
+pub const KINDS_OF_TESTS: [&str; 12] =
+    ["[k]", "[!k]", "[k?]", "[!k?]", "[k=v]", "[k!=v]", "[k=n]", "[k!=n]", "[k<n]", "[k<=n]", "[k>n]", "[k>=n]"];
+const KINDS_OF_VALUES: [&str; 6] = ["identifier", "identifier a:b", "string", "colour", "numbers", "width delta"];
 
 const SHAPES: [&str; 8] = [
     "rule without selectors",
@@ -249,61 +243,69 @@ const SHAPES: [&str; 8] = [
     "NaN",
 ];
 
+/// How often each refusal, object type, kind of test and kind of value came up, and some shapes.
+pub struct Counts {
+    loads: Line,
+    refusals: Line,
+    types: Line,
+    tests: Line,
+    values: Line,
+    shapes: Line,
+}
+
+fn spelt(number: u64, reason: u64) -> String {
+    if reason == 0 {
+        format!("{number}")
+    } else {
+        format!("{number}, reason {reason}")
+    }
+}
+
+impl Default for Counts {
+    fn default() -> Counts {
+        let reasons = |(number, last): (u64, u64)| (last.min(1)..=last).map(move |reason| spelt(number, reason));
+        Counts {
+            loads: Line::new("loaded", ["sheets"]),
+            refusals: Line::new("refused", REFUSALS.into_iter().flat_map(reasons)),
+            types: Line::new("object type", TYPES),
+            tests: Line::new("test", KINDS_OF_TESTS),
+            values: Line::new("value", KINDS_OF_VALUES),
+            shapes: Line::new("shape", SHAPES),
+        }
+    }
+}
+
 impl Counts {
     pub fn add(&mut self, filled: &Filled) {
         let tables = match filled {
             Ok(tables) => tables,
-            Err(refusal) => {
-                *self.refusals.entry((refusal[0], refusal[1])).or_default() += 1;
-                return;
-            }
+            Err(refusal) => return self.refusals.named(&spelt(refusal[0], refusal[1])),
         };
-        self.loads += 1;
+        self.loads.met(0);
         let [rules, selectors, tests, properties, _, colors] = &tables.entries;
-        let mut shape = |n: usize, met: bool| self.shapes[n] += u64::from(met);
         for rule in rules {
-            shape(0, rule[1] == rule[2]);
-            shape(1, rule[3] == rule[4]);
+            self.shapes.met_if(0, rule[1] == rule[2]);
+            self.shapes.met_if(1, rule[3] == rule[4]);
         }
         for selector in selectors {
-            self.types[selector[0] as usize] += 1;
-            shape(2, selector[5] == 1);
-            shape(3, selector[1] > 0);
-            shape(4, selector[2] > 0);
+            self.types.met(selector[0] as usize - 1);
+            self.shapes.met_if(2, selector[5] == 1);
+            self.shapes.met_if(3, selector[1] > 0);
+            self.shapes.met_if(4, selector[2] > 0);
         }
         for test in tests {
-            self.tests[test[0] as usize] += 1;
-            shape(5, test[3] == 1);
+            self.tests.met(test[0] as usize - 1);
+            self.shapes.met_if(5, test[3] == 1);
         }
-        for property in properties {
-            self.values[property[0] as usize] += 1;
-        }
-        colors.iter().for_each(|_| shape(6, true));
-        tables.numbers.iter().for_each(|&bits| shape(7, f64::from_bits(bits).is_nan()));
+        properties.iter().for_each(|property| self.values.met(property[0] as usize - 1));
+        self.shapes.met_often(6, colors.len() as u64);
+        tables.numbers.iter().for_each(|&bits| self.shapes.met_if(7, f64::from_bits(bits).is_nan()));
     }
+}
 
-    /// Prints all counts; false if one is 0.
-    pub fn print(&self) -> bool {
-        let mut met = true;
-        let mut line = |name: &str, counts: Vec<(String, u64)>| {
-            let shown: Vec<_> = counts.iter().map(|(what, n)| format!("{what}: {n}")).collect();
-            println!("{name}: {}", shown.join(", "));
-            met &= counts.iter().all(|&(_, n)| n > 0);
-        };
-        let mut refusals = Vec::new();
-        for (number, last) in REFUSALS {
-            for reason in last.min(1)..=last {
-                let n = self.refusals.get(&(number, reason)).copied().unwrap_or(0);
-                refusals.push((if last == 0 { format!("{number}") } else { format!("{number} {reason}") }, n));
-            }
-        }
-        let kinds = |counts: &[u64]| (1..counts.len()).map(|k| (k.to_string(), counts[k])).collect::<Vec<_>>();
-        line("loaded", vec![("sheets".to_string(), self.loads)]);
-        line("refused", refusals);
-        line("object types", kinds(&self.types));
-        line("kinds of tests", kinds(&self.tests));
-        line("kinds of values", kinds(&self.values));
-        line("shapes", SHAPES.iter().map(|s| s.to_string()).zip(self.shapes).collect());
-        met
+impl Tally for Counts {
+    fn lines(&mut self) -> Vec<&mut Line> {
+        let Counts { loads, refusals, types, tests, values, shapes } = self;
+        vec![loads, refusals, types, tests, values, shapes]
     }
 }

@@ -4,7 +4,7 @@ use crate::bundles;
 use crate::entities::{self, Entity};
 use crate::geodata::reader::probe as reader;
 use crate::load_cases::{random_bundle, ENTRIES};
-use crate::load_run::{original_rules, sheet_bundles, Files, ALL};
+use crate::load_run::{original_rules, Files, ALL};
 use crate::loads::{decode, Load, Property, TESTS};
 use crate::map_cases::{
     damaged, large, layouts, limits, number, padded, piece_entity, random_entity, random_tables, sound_tables, spoilt,
@@ -14,11 +14,8 @@ use crate::mapcss::styler::probe::{Layers, Numbered};
 use crate::maps::{layer_name, model, tag_number, Answer, Handed, TagNumber, Tally, MOST_LAYERS, MOST_NAMES};
 use crate::model;
 use crate::random::Random;
-use crate::run::{shrunk, SHOWN};
-use std::time::{Duration, Instant};
-
-/// No case is cut down for longer than this.
-const PATIENCE: Duration = Duration::from_secs(5);
+use crate::run::{shrunk, Part, Plan, Tries};
+use crate::sheets;
 
 /// Entities made for one sheet.
 const ENTITIES: usize = 8;
@@ -110,24 +107,32 @@ impl Sheet {
         expected
     }
 
-    /// What is wrong with a case, if anything is.
-    fn difference(&self, handed: &Handed, entity: &Entity, zoom: u8, tally: &mut Tally) -> Option<String> {
+    /// Whether the original's answer is compared, and what is wrong with a case, if anything is.
+    fn judged(&self, handed: &Handed, entity: &Entity, zoom: u8, tally: &mut Tally) -> (bool, Option<String>) {
         let bytes = entities::bytes(entity);
         let expected = model(&self.bundle, handed, zoom, &bytes, tally);
         let original = self.original(entity, zoom);
-        if let Some(original) = &original {
-            if let Some(what) = self.apart(original, &expected) {
-                return Some(format!("the model is not the original:{what}"));
-            }
+        let ours = || ours(&self.bundle, handed, zoom, &bytes);
+        (original.is_some() && expected.is_ok(), self.difference(original.as_ref(), &expected, ours))
+    }
+
+    fn difference(
+        &self,
+        original: Option<&Layers>,
+        expected: &Answer,
+        ours: impl FnOnce() -> Option<Result<Answer, String>>,
+    ) -> Option<String> {
+        if let Some(what) = original.and_then(|original| self.apart(original, expected)) {
+            return Some(format!("the model is not the original:{what}"));
         }
-        let ours = match ours(&self.bundle, handed, zoom, &bytes)? {
+        let ours = match ours()? {
             Ok(answer) => answer,
             Err(what) => return Some(format!("our call: {what}")),
         };
-        if ours != expected {
+        if ours != *expected {
             return Some(format!("\n  expected {expected:?}\n  ours     {ours:?}"));
         }
-        self.apart(&original?, &ours).map(|what| format!("our maps:{what}"))
+        self.apart(original?, &ours).map(|what| format!("our maps:{what}"))
     }
 }
 
@@ -141,33 +146,19 @@ fn ours(_: &[u8], _: &Handed, _: u8, _: &[u8]) -> Option<Result<Answer, String>>
     None
 }
 
-struct Run {
-    cases: u64,
-    compared: u64,
-    differences: u64,
-    tally: Tally,
-    files: Files,
-}
-
-impl Run {
-    fn differs(&mut self, text: impl FnOnce(&mut Files) -> String) {
-        self.differences += 1;
-        if self.differences <= SHOWN {
-            let text = text(&mut self.files);
-            println!("difference {}: {text}", self.differences);
-        }
-    }
-
+impl Part<Tally> {
     /// A sheet's tables as loaded, perhaps with more behind the counts.
-    fn case(&mut self, sheet: &Sheet, handed: &Handed, entity: &Entity, zoom: u8) {
+    pub fn case(&mut self, sheet: &Sheet, handed: &Handed, entity: &Entity, zoom: u8) {
         self.cases += 1;
-        self.compared += u64::from(sheet.original.is_some());
-        if let Some(what) = sheet.difference(handed, entity, zoom, &mut self.tally) {
-            self.differs(|files| shown(files, sheet, entity, zoom, &what));
+        let (compared, what) = sheet.judged(handed, entity, zoom, &mut self.tally);
+        self.compared += u64::from(compared);
+        if let Some(what) = what {
+            let (bundle, entity) = (sheet.bundle.clone(), entity.clone());
+            self.differs(move || shown(&bundle, &entity, zoom, &what));
         }
     }
 
-    fn call(&mut self, bundle: &[u8], handed: &Handed, zoom: u8, entity: &[u8], about: &str) {
+    pub fn call(&mut self, bundle: &[u8], handed: &Handed, zoom: u8, entity: &[u8], about: &str) {
         drop(self.answer(bundle, handed, zoom, entity, about));
     }
 
@@ -184,7 +175,8 @@ impl Run {
         if let Some(what) = wrong {
             let bundle = bundle.escape_ascii();
             let entity = entity[..entity.len().min(200)].escape_ascii();
-            self.differs(|_| format!("{about}: zoom {zoom}, entity {entity}, bundle {bundle}, {handed:?}: {what}"));
+            let text = format!("{about}: zoom {zoom}, entity {entity}, bundle {bundle}, {handed:?}: {what}");
+            self.differs(|| text);
         }
         expected
     }
@@ -206,7 +198,8 @@ impl Run {
             all.join(" ")
         });
         if got.as_deref().map_err(|n| *n) != answer {
-            self.differs(|_| format!("example {text:?}, {tag:?}: expected {answer:?}, the model has {got:?}"));
+            let text = format!("example {text:?}, {tag:?}: expected {answer:?}, the model has {got:?}");
+            self.differs(|| text);
         }
     }
 
@@ -222,7 +215,7 @@ impl Run {
                 _ => false,
             };
             if !same {
-                self.differs(|_| format!("tag number {text:?}: {:?}", tag_number(text.as_bytes())));
+                self.differs(move || format!("tag number {text:?}: {:?}", tag_number(text.as_bytes())));
             }
             for test in ["<5", "<=5", ">5", ">=5", ">-0", ">=0", ">1", "<=-0", "=5", "!=5"] {
                 let sheet = Sheet::load(&mut self.files, bundles::single(&format!("way[a{test}]{{b:1;}}"))).unwrap();
@@ -259,35 +252,36 @@ impl Run {
 }
 
 /// A differing case with its first text and its tags cut down as far as it still differs.
-fn shown(files: &mut Files, sheet: &Sheet, entity: &Entity, zoom: u8, what: &str) -> String {
-    let until = Instant::now() + PATIENCE;
-    let texts = bundles::texts(&sheet.bundle);
-    let with = |text: &str| {
+fn shown(bundle: &[u8], entity: &Entity, zoom: u8, what: &str) -> String {
+    let tries = Tries::new();
+    let texts = bundles::texts(bundle);
+    let files = std::cell::RefCell::new(Files::new());
+    let differs = |text: &str, entity: &Entity| {
         let mut texts = texts.clone();
         texts[0].1 = text;
-        bundles::of(&texts)
-    };
-    let files = std::cell::RefCell::new(files);
-    let judged = |text: &str, entity: &Entity| {
-        let sheet = Sheet::load(&mut files.borrow_mut(), with(text))?;
-        sheet.difference(&sheet.handed, entity, zoom, &mut Tally::default())
+        let sheet = Sheet::load(&mut files.borrow_mut(), bundles::of(&texts))?;
+        sheet.judged(&sheet.handed, entity, zoom, &mut Tally::default()).1
     };
     let mut entity = entity.clone();
     for k in (0..entity.tags.len()).rev() {
         let mut fewer = entity.clone();
         fewer.tags.remove(k);
-        if Instant::now() < until && judged(texts[0].1, &fewer).is_some() {
+        if tries.take() && differs(texts[0].1, &fewer).is_some() {
             entity = fewer;
         }
     }
-    let small = shrunk(texts[0].1, &|text| Instant::now() < until && judged(text, &entity).is_some());
-    let what = judged(&small, &entity).unwrap_or(what.to_string());
-    let tags: Vec<_> = entity.tags.iter().map(|(k, v)| format!("{}={}", k.escape_ascii(), v.escape_ascii())).collect();
-    let (kind, id) = (entity.kind, entity.id);
-    format!("zoom {zoom}, kind {kind}, id {id}, tags {tags:?}, text 0 {small:?} of {}: {what}", texts.len())
+    let small = shrunk(texts[0].1, &|text| tries.take() && differs(text, &entity).is_some());
+    let what = differs(&small, &entity).unwrap_or(what.to_string());
+    format!("zoom {zoom}, {}, text 0 {small:?} of {}: {what}", spelt(&entity), texts.len())
 }
 
-impl Run {
+/// An entity to be printed.
+pub fn spelt(entity: &Entity) -> String {
+    let tags: Vec<_> = entity.tags.iter().map(|(k, v)| format!("{}={}", k.escape_ascii(), v.escape_ascii())).collect();
+    format!("kind {}, id {}, tags {tags:?}", entity.kind, entity.id)
+}
+
+impl Part<Tally> {
     fn written(&mut self) {
         EXAMPLES.iter().for_each(|&(text, tag, answer)| self.example(text, tag, answer));
         self.numbers();
@@ -298,129 +292,90 @@ impl Run {
             let got = self.answer(&sheet.bundle, &sheet.handed, 0, &entities::bytes(&entity), "limits");
             let got = got.map(|layers| layers.len()).map_err(|refusal| refusal[0]);
             if got != answer {
-                self.differs(|_| format!("limits {text:?}: expected {answer:?}, the model has {got:?}"));
+                self.differs(move || format!("limits {text:?}: expected {answer:?}, the model has {got:?}"));
             }
         }
         let sheet = Sheet::load(&mut self.files, bundles::single("way[a]{b:1;}")).unwrap();
         for (bytes, number) in layouts() {
             let answer = self.answer(&sheet.bundle, &sheet.handed, 0, &bytes, "a layout");
             if answer.map_or_else(|refusal| refusal[0], |_| 0) != number {
-                self.differs(|_| format!("a layout of {} bytes is not {number}", bytes.len()));
+                self.differs(move || format!("a layout of {} bytes is not {number}", bytes.len()));
             }
         }
     }
 
-    /// At least so many entities for random bundles; hands back how many of these.
-    fn random(&mut self, seed: u64, count: u64) -> u64 {
-        let until = self.cases + count;
-        let mut index = 0;
-        while self.cases < until {
-            let r = &mut Random::new(seed, index);
-            index += 1;
-            let bundle = if index % 10 == 0 { bundles::single(&wide_sheet(r)) } else { random_bundle(r) };
-            if let Some(sheet) = Sheet::load(&mut self.files, bundle) {
-                self.entities(r, &sheet, ENTITIES);
-            }
+    fn sheet(&mut self, r: &mut Random, bundle: Vec<u8>, entities: usize) {
+        if let Some(sheet) = Sheet::load(&mut self.files, bundle) {
+            self.entities(r, &sheet, entities);
         }
-        index
     }
 
-    /// Random tag numbers compared with what Rust reads, and with its neighbours.
-    fn exact_numbers(&mut self, seed: u64, count: u64) {
+    /// A random tag number compared with what Rust reads, and with its neighbours.
+    fn exact_number(&mut self, r: &mut Random) {
         let sheet = Sheet::load(&mut self.files, bundles::single("way[a<1]{b:1;}")).unwrap();
         let mut handed = sheet.handed.clone();
-        for index in 0..count {
-            let text = number(&mut Random::new(seed, index));
-            let read = text.parse::<f64>();
-            let tags = vec![(b"a".to_vec(), text.clone().into_bytes())];
-            let entity = entities::bytes(&Entity { kind: 1, id: 1, tags });
-            let x = read.clone().unwrap_or(0.0);
-            for y in [x, x.next_up(), x.next_down()] {
-                handed.numbers[0] = y;
-                for (kind, holds) in [(9, x < y), (10, x <= y), (11, x > y), (12, x >= y)] {
-                    handed.words[TESTS][0] = kind;
-                    let answer = self.answer(&sheet.bundle, &handed, 0, &entity, "a tag number");
-                    let same = match &answer {
-                        Ok(layers) => layers.len() == usize::from(holds && read.is_ok()),
-                        Err(refusal) => refusal[0] == 8 && read.is_ok(),
-                    };
-                    if !same {
-                        self.differs(|_| format!("tag number {text:?}, kind {kind}, beside {y:e}: {answer:?}"));
-                    }
+        let text = number(r);
+        let read = text.parse::<f64>();
+        let tags = vec![(b"a".to_vec(), text.clone().into_bytes())];
+        let entity = entities::bytes(&Entity { kind: 1, id: 1, tags });
+        let x = read.clone().unwrap_or(0.0);
+        for y in [x, x.next_up(), x.next_down()] {
+            handed.numbers[0] = y;
+            for (kind, holds) in [(9, x < y), (10, x <= y), (11, x > y), (12, x >= y)] {
+                handed.words[TESTS][0] = kind;
+                let answer = self.answer(&sheet.bundle, &handed, 0, &entity, "a tag number");
+                let same = match &answer {
+                    Ok(layers) => layers.len() == usize::from(holds && read.is_ok()),
+                    Err(refusal) => refusal[0] == 8 && read.is_ok(),
+                };
+                if !same {
+                    let text = format!("tag number {text:?}, kind {kind}, beside {y:e}: {answer:?}");
+                    self.differs(|| text);
                 }
             }
         }
     }
 
-    fn small_spoilt(&mut self, r: &mut Random) {
-        for text in SPOILT.iter().chain(&ENTRIES) {
-            let sheet = Sheet::load(&mut self.files, bundles::single(text)).expect("a small sheet");
-            (0..3).for_each(|_| self.spoils(r, &sheet));
-        }
-        large(&mut |about, handed| self.call(&[], handed, 0, &[0, 0, 0], about));
+    fn small_spoilt(&mut self, r: &mut Random, text: &str) {
+        let sheet = Sheet::load(&mut self.files, bundles::single(text)).expect("a small sheet");
+        (0..3).for_each(|_| self.spoils(r, &sheet));
     }
 
-    fn random_spoilt(&mut self, seed: u64, count: u64) {
-        let until = self.cases + count;
-        let mut index = 0;
-        while self.cases < until {
-            let r = &mut Random::new(seed, u64::MAX / 2 + index);
-            index += 1;
-            let Some(sheet) = Sheet::load(&mut self.files, random_bundle(r)) else { continue };
-            if index % 100 == 0 && !sheet.load.rules.is_empty() {
-                self.spoils(r, &sheet);
-                continue;
-            }
-            for _ in 0..ENTITIES {
-                let entity = entities::bytes(&piece_entity(r, &sheet.bundle));
-                let tables = sound_tables(r, sheet.bundle.len());
-                self.call(&sheet.bundle, &tables, r.below(256) as u8, &entity, "sound tables");
-                let tables = random_tables(r, sheet.bundle.len());
-                self.call(&sheet.bundle, &tables, r.below(256) as u8, &entity, "random words");
-            }
+    fn random_spoilt(&mut self, r: &mut Random, index: u64) {
+        let Some(sheet) = Sheet::load(&mut self.files, random_bundle(r)) else { return };
+        if index % 100 == 0 && !sheet.load.rules.is_empty() {
+            return self.spoils(r, &sheet);
+        }
+        for _ in 0..ENTITIES {
+            let entity = entities::bytes(&piece_entity(r, &sheet.bundle));
+            let tables = sound_tables(r, sheet.bundle.len());
+            self.call(&sheet.bundle, &tables, r.below(256) as u8, &entity, "sound tables");
+            let tables = random_tables(r, sheet.bundle.len());
+            self.call(&sheet.bundle, &tables, r.below(256) as u8, &entity, "random words");
         }
     }
 }
 
-/// `count` random entities of the seed, and as many calls with spoilt tables.
-pub fn run(seed: u64, count: u64) -> bool {
-    let mut run = Run { cases: 0, compared: 0, differences: 0, tally: Tally::default(), files: Files::new() };
-    run.written();
-    println!("{} written cases", run.cases);
-
-    let r = &mut Random::new(seed, u64::MAX);
-    let before = run.cases;
-    for texts in sheet_bundles() {
-        let sheet = Sheet::load(&mut run.files, bundles::of(&texts)).expect("a sheet");
-        run.entities(r, &sheet, 100 + count as usize / 200);
-    }
-    println!("{} entities for the sheets", run.cases - before);
-
-    let before = run.cases;
-    let sheets = run.random(seed, count);
-    println!("{} entities for {sheets} random bundles of seed {seed}", run.cases - before);
-
-    let before = run.cases;
-    run.exact_numbers(seed, count / 20);
-    println!("{} calls with random tag numbers beside the numbers that Rust reads", run.cases - before);
-
-    let before = run.cases;
-    run.small_spoilt(r);
-    println!("{} calls with each word of small tables spoilt, or large ones", run.cases - before);
-
-    let before = run.cases;
-    run.random_spoilt(seed, count);
-    println!("{} calls with spoilt or random tables", run.cases - before);
-
-    let all_met = run.tally.print();
-    if !all_met {
-        println!("a verdict, a refusal, a count or a shape never came up");
-    }
-    println!("{} of {} maps have an answer of the original", run.compared, run.cases);
-    if cfg!(not(feature = "rattle")) {
-        println!("{} maps, {} differences of the model, ours not compared", run.cases, run.differences);
-        return false;
-    }
-    println!("{} maps, {} differences", run.cases, run.differences);
-    all_met && run.differences == 0
+/// Entities for the sheets and for random bundles, about `count`, and half as many calls with spoilt tables.
+pub fn plan(plan: &mut Plan, count: u64) {
+    plan.one("maps: written", |run| run.maps.written());
+    let sheets = sheets::bundles();
+    plan.many("maps: sheets", sheets.len() as u64 * (2 + count / 10_000), 4, |run, r, index| {
+        run.maps.sheet(r, bundles::of(&sheets[index as usize % sheets.len()]), 50);
+    });
+    plan.many("maps: random bundles", count / ENTITIES as u64, 500, |run, r, index| {
+        let bundle = if index % 10 == 0 { bundles::single(&wide_sheet(r)) } else { random_bundle(r) };
+        run.maps.sheet(r, bundle, ENTITIES);
+    });
+    plan.many("maps: tag numbers beside Rust's", count / 20, 5_000, |run, r, _| run.maps.exact_number(r));
+    let small = SPOILT.len() as u64 + ENTRIES.len() as u64;
+    plan.many("maps: small tables spoilt word by word", small, 1, |run, r, index| {
+        run.maps.small_spoilt(r, SPOILT.iter().chain(&ENTRIES).nth(index as usize).unwrap());
+    });
+    plan.one("maps: large tables", |run| {
+        large(&mut |about, handed| run.maps.call(&[], handed, 0, &[0, 0, 0], about));
+    });
+    plan.many("maps: spoilt or random tables", count / 4 / ENTITIES as u64, 500, |run, r, index| {
+        run.maps.random_spoilt(r, index);
+    });
 }

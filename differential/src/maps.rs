@@ -2,9 +2,11 @@
 //! words of the tables. Refusals 7, 8, 22, 23 and 24, and an entity's 2, are this model's alone: the original has none.
 
 use crate::entities::{self, Entity};
-use crate::loads::{stride, Entry, Refusal, Tables, MOST_ENTRIES, NUMBERS, PROPERTIES, RULES, SELECTORS, TESTS};
-use std::collections::BTreeMap;
+use crate::loads::{stride, Entry, Refusal, Tables, KINDS_OF_TESTS};
+use crate::loads::{MOST_ENTRIES, NUMBERS, PROPERTIES, RULES, SELECTORS, TESTS};
+use crate::tally::{self, Line};
 use std::ops::Range;
+use std::sync::OnceLock;
 
 pub const MOST_LAYERS: usize = 32;
 pub const MOST_NAMES: usize = 128;
@@ -216,32 +218,62 @@ impl Verdict {
     }
 }
 
-/// How often each verdict of each kind of test came up, each shape of a tag number, each fate of a selector, each refusal
-/// and each count of layers.
-#[derive(Default)]
-pub struct Tally {
-    tests: [[u64; 3]; 13],
-    numbers: [u64; 9],
-    selectors: [u64; 5],
-    refusals: BTreeMap<u64, u64>,
-    kinds: [u64; 3],
-    layers: BTreeMap<usize, u64>,
-    shapes: [u64; 7],
-}
-
 const NUMBER_SHAPES: [&str; 9] = ["absent", "malformed", "outside", "0", "-0", "whole", "broken", "infinite", "NaN"];
 const FATES: [&str; 5] = ["other type", "other zoom", "test fails", "outside", "matches"];
 const SHAPES: [&str; 7] =
     ["layer *", "default by name", "layer without properties", "overwritten name", "128 names", "no tags", "256 tags"];
 const REFUSALS: [u64; 6] = [2, 7, 8, 22, 23, 24];
+/// The first kind of test that reads a tag as a number.
+const NUMERIC: usize = 9;
+
+/// How often each verdict of each kind of test came up, each shape of a tag number, each fate of a selector, each refusal
+/// and each count of layers.
+#[derive(Clone)]
+pub struct Tally {
+    hold: Line,
+    fail: Line,
+    outside: Line,
+    numbers: Line,
+    selectors: Line,
+    kinds: Line,
+    refused: Line,
+    layers: Line,
+    shapes: Line,
+}
+
+impl Default for Tally {
+    fn default() -> Tally {
+        static EMPTY: OnceLock<Tally> = OnceLock::new();
+        let empty = || Tally {
+            hold: Line::new("test holds", KINDS_OF_TESTS),
+            fail: Line::new("test fails", KINDS_OF_TESTS),
+            outside: Line::new("test is 8", &KINDS_OF_TESTS[NUMERIC - 1..]),
+            numbers: Line::new("tag number", NUMBER_SHAPES),
+            selectors: Line::new("selector", FATES),
+            kinds: Line::new("entity", ["node", "open", "closed"]),
+            refused: Line::new("refused", REFUSALS),
+            layers: Line::new("layers", 0..=MOST_LAYERS),
+            shapes: Line::new("shape", SHAPES),
+        };
+        EMPTY.get_or_init(empty).clone()
+    }
+}
 
 impl Tally {
+    fn verdict(&mut self, kind: usize, verdict: Verdict) {
+        match verdict {
+            Verdict::Holds => self.hold.met(kind - 1),
+            Verdict::Fails => self.fail.met(kind - 1),
+            Verdict::Outside => self.outside.met(kind - NUMERIC),
+        }
+    }
+
     fn shape(&mut self, n: usize, met: bool) {
-        self.shapes[n] += u64::from(met);
+        self.shapes.met_if(n, met);
     }
 
     fn number(&mut self, number: Option<TagNumber>) {
-        let shape = match number {
+        self.numbers.met(match number {
             None => 0,
             Some(TagNumber::Malformed) => 1,
             Some(TagNumber::Outside) => 2,
@@ -249,32 +281,14 @@ impl Tally {
             Some(TagNumber::Is(x)) if x.is_infinite() => 7,
             Some(TagNumber::Is(x)) if x.is_nan() => 8,
             Some(TagNumber::Is(x)) => 5 + usize::from(x.trunc() != x),
-        };
-        self.numbers[shape] += 1;
+        });
     }
+}
 
-    /// Prints all counts; false if one is 0.
-    pub fn print(&self) -> bool {
-        let mut met = true;
-        let mut line = |name: &str, counts: Vec<(String, u64)>| {
-            let shown: Vec<_> = counts.iter().map(|(what, n)| format!("{what}: {n}")).collect();
-            println!("{name}: {}", shown.join(", "));
-            met &= counts.iter().all(|&(_, n)| n > 0);
-        };
-        let named = |names: &[&str], counts: &[u64]| {
-            names.iter().map(|name| name.to_string()).zip(counts.iter().copied()).collect::<Vec<_>>()
-        };
-        for (verdict, name) in ["tests that hold", "tests that fail", "tests that are 8"].iter().enumerate() {
-            let kinds = if verdict == 2 { 9..=12 } else { 1..=12 };
-            line(name, kinds.map(|kind: usize| (kind.to_string(), self.tests[kind][verdict])).collect());
-        }
-        line("tag numbers", named(&NUMBER_SHAPES, &self.numbers));
-        line("selectors", named(&FATES, &self.selectors));
-        line("entities", named(&["node", "open", "closed"], &self.kinds));
-        line("refused", REFUSALS.map(|n| (n.to_string(), self.refusals.get(&n).copied().unwrap_or(0))).to_vec());
-        line("layers", (0..=MOST_LAYERS).map(|n| (n.to_string(), self.layers.get(&n).copied().unwrap_or(0))).collect());
-        line("shapes", named(&SHAPES, &self.shapes));
-        met
+impl tally::Tally for Tally {
+    fn lines(&mut self) -> Vec<&mut Line> {
+        let Tally { hold, fail, outside, numbers, selectors, kinds, refused, layers, shapes } = self;
+        vec![hold, fail, outside, numbers, selectors, kinds, refused, layers, shapes]
     }
 }
 
@@ -318,7 +332,7 @@ impl<'a> Walk<'a> {
             8 => Verdict::of(tag != Some(spelt.as_bytes())),
             _ => self.numeric(kind, tag.map(tag_number), number),
         };
-        self.tally.tests[kind as usize][verdict as usize] += 1;
+        self.tally.verdict(kind as usize, verdict);
         verdict
     }
 
@@ -406,7 +420,7 @@ impl<'a> Walk<'a> {
         for [_, from, to, p, p_to, ..] in self.handed.entries(RULES) {
             for n in from..to {
                 let (fate, verdict) = self.verdict(n as usize);
-                self.tally.selectors[fate] += 1;
+                self.tally.selectors.met(fate);
                 match verdict {
                     Verdict::Fails => {}
                     Verdict::Outside => return Err(8),
@@ -435,7 +449,7 @@ fn judged(bundle: &[u8], handed: &Handed, zoom: u8, entity: &[u8], tally: &mut T
 
 /// The layers of an entity, with sound tables; or 8, 23 or 24.
 pub fn walk(bundle: &[u8], handed: &Handed, zoom: u8, entity: &Entity, tally: &mut Tally) -> Result<Vec<Layer>, u64> {
-    tally.kinds[entity.kind as usize] += 1;
+    tally.kinds.met(entity.kind as usize);
     tally.shape(5, entity.tags.is_empty());
     tally.shape(6, entity.tags.len() == 256);
     Walk { bundle, handed, zoom, entity, tally }.layers()
@@ -445,9 +459,9 @@ pub fn walk(bundle: &[u8], handed: &Handed, zoom: u8, entity: &Entity, tally: &m
 pub fn model(bundle: &[u8], handed: &Handed, zoom: u8, entity: &[u8], tally: &mut Tally) -> Answer {
     let answer = judged(bundle, handed, zoom, entity, tally);
     match &answer {
-        Err(number) => *tally.refusals.entry(*number).or_default() += 1,
+        Err(number) => tally.refused.named(&number.to_string()),
         Ok(layers) => {
-            *tally.layers.entry(layers.len()).or_default() += 1;
+            tally.layers.met(layers.len());
             tally.shape(2, layers.iter().any(|layer| layer.properties.is_empty()));
             tally.shape(4, layers.iter().any(|layer| layer.properties.len() == MOST_NAMES));
         }

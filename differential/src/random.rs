@@ -9,6 +9,12 @@ impl Random {
         Random(r.next() ^ index.wrapping_mul(0xd134_2543_de82_ef95))
     }
 
+    /// The same for the cases of one stage of a run, whose numbers are apart from those of other stages.
+    pub fn of(seed: u64, stage: &str, index: u64) -> Random {
+        let name = stage.bytes().fold(0xcbf2_9ce4_8422_2325, |h, b| (h ^ u64::from(b)).wrapping_mul(0x0100_0000_01b3));
+        Random::new(seed ^ name, index)
+    }
+
     pub fn next(&mut self) -> u64 {
         self.0 = self.0.wrapping_add(0x9e37_79b9_7f4a_7c15);
         let mut z = self.0;

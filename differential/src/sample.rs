@@ -14,6 +14,7 @@ use crate::plates;
 use crate::random::Random;
 use crate::sample_styles;
 use crate::sheets;
+use crate::tally::Tally as _;
 use crate::tokens::{self, put, Counts};
 use std::collections::BTreeSet;
 use std::fs;
@@ -90,10 +91,10 @@ pub fn write(directory: &Path, seed: u64, count: u64) -> bool {
     long_numbers().iter().for_each(|text| sample.text(text));
     all_short("", 2, &mut |text| sample.text(text));
     let sheets = sheets::texts();
-    let random = (0..).map(|index| random_case(&mut Random::new(seed, index), &sheets));
+    let random = (0..).map(|index| random_case(&mut Random::new(seed, index), sheets));
     random.filter(|text| text.len() <= TEXT_BYTES).take(count as usize).for_each(|text| sample.text(&text));
     sample.pack.write(directory, "tokens");
-    let tokens_met = sample.counts.print();
+    let tokens_met = sample.counts.print("tokens");
     let loads_met = write_loads(directory, seed, count / 10);
     write_maps(directory, seed, count / 10);
     let plates_met = write_plates(directory, seed, count / 10);
@@ -192,7 +193,7 @@ fn write_loads(directory: &Path, seed: u64, count: u64) -> bool {
     let random = random.filter(|(bundle, lent)| bundle.len() <= BUNDLE_BYTES && fits(lent));
     random.take(count as usize).for_each(|(bundle, lent)| sample.load(&bundle, &lent));
     sample.pack.write(directory, "loads");
-    sample.counts.print()
+    sample.counts.print("loads")
 }
 
 #[derive(Default)]
@@ -281,7 +282,7 @@ fn write_maps(directory: &Path, seed: u64, count: u64) {
     }
     sample.pack.write(directory, "maps");
     // no bundle that loads has 22, and few cases have many layers: not all counts must come up
-    sample.tally.print();
+    sample.tally.print("maps");
 }
 
 #[derive(Default)]

@@ -18,6 +18,7 @@ use crate::style_cases::{
 use crate::style_run;
 use crate::style_tally;
 use crate::styles::{Answer, Settings};
+use crate::tally::Tally as _;
 use crate::tokens::{bits, put};
 use std::collections::BTreeSet;
 use std::path::Path;
@@ -162,7 +163,7 @@ fn write_styles(directory: &Path, seed: u64, count: u64) -> bool {
     }
     sample.pack.write(directory, "styles");
     // no bundle that loads has 22, and few cases have many layers: not all counts must come up
-    sample.tally.print();
+    sample.tally.print("styles");
     REFUSED.iter().all(|number| sample.refused.contains(number))
 }
 
@@ -286,7 +287,7 @@ fn write_draws(directory: &Path, seed: u64, count: u64) -> bool {
     }
     sample.pack.write(directory, "draws");
     // no bundle that loads has 22, and few lists are long: not all counts must come up
-    sample.tally.print();
+    sample.tally.print("draws");
     REFUSED_LISTS.iter().all(|number| sample.refused.contains(number))
 }
 

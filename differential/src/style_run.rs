@@ -4,19 +4,16 @@ use crate::bundles;
 use crate::entities::{self, Entity};
 use crate::geodata::reader::probe as reader;
 use crate::load_cases::random_bundle;
-use crate::load_run::{cut, sheet_bundles, Files};
+use crate::load_run::{cut, Files};
 use crate::map_cases::{damaged, large, layouts, limits, padded, piece_entity, sound_tables, spoilt, wide_sheet};
-use crate::map_run::Sheet;
+use crate::map_run::{spelt, Sheet};
 use crate::maps::Handed;
 use crate::random::Random;
-use crate::run::{shrunk, SHOWN};
+use crate::run::{shrunk, Part, Plan, Tries};
+use crate::sheets;
 use crate::style_cases::{settings, style_entity, style_sheet, twisted, CANVAS, EXAMPLES, LEVELS};
 use crate::style_tally::Tally;
 use crate::styles::{canvas, decode, level, model, Answer, Canvas, Level, Settings, Style};
-use std::time::{Duration, Instant};
-
-/// No case is cut down for longer than this.
-pub const PATIENCE: Duration = Duration::from_secs(5);
 
 /// Entities made for one sheet.
 const ENTITIES: usize = 8;
@@ -116,52 +113,37 @@ fn difference(
     (expected.is_ok() && sheet.original.is_some(), what)
 }
 
-struct Run {
-    cases: u64,
-    compared: u64,
-    differences: u64,
-    tally: Tally,
-    files: Files,
-}
-
-impl Run {
-    fn differs(&mut self, text: impl FnOnce(&mut Files) -> String) {
-        self.differences += 1;
-        if self.differences <= SHOWN {
-            let text = text(&mut self.files);
-            println!("difference {}: {text}", self.differences);
-        }
-    }
-
+impl Part<Tally> {
     fn load(&mut self, text: &str) -> Sheet {
         Sheet::load(&mut self.files, bundles::single(text)).expect("a written sheet")
     }
 
     /// A sheet's tables as loaded, perhaps with more behind the counts.
-    fn case(&mut self, sheet: &mut Sheet, handed: &Handed, entity: &Entity, zoom: u8, settings: &Settings) {
+    pub fn case(&mut self, sheet: &mut Sheet, handed: &Handed, entity: &Entity, zoom: u8, settings: &Settings) {
         self.cases += 1;
         let (compared, what) = difference(sheet, handed, entity, zoom, settings, &mut self.tally);
         self.compared += u64::from(compared);
         if let Some(what) = what {
-            self.differs(|files| shown(files, sheet, entity, zoom, settings, &what));
+            let (bundle, entity, settings) = (sheet.bundle.clone(), entity.clone(), settings.clone());
+            self.differs(move || shown(&bundle, &entity, zoom, &settings, &what));
         }
     }
 
     /// Any tables and any bytes: compares ours with the model.
-    fn call(&mut self, bundle: &[u8], handed: &Handed, zoom: u8, settings: &Settings, entity: &[u8], about: &str) {
+    pub fn call(&mut self, bundle: &[u8], handed: &Handed, zoom: u8, settings: &Settings, entity: &[u8], about: &str) {
         self.cases += 1;
         let expected = model(bundle, handed, zoom, settings, entity, &mut self.tally);
         if let Some(what) = unlike(&expected, ours(bundle, handed, zoom, settings, entity)) {
             let bundle = bundle.escape_ascii();
             let entity = entity[..entity.len().min(200)].escape_ascii();
-            self.differs(|_| {
-                format!("{about}: zoom {zoom}, {settings:?}, entity {entity}, bundle {bundle}, {handed:?}: {what}")
-            });
+            let text =
+                format!("{about}: zoom {zoom}, {settings:?}, entity {entity}, bundle {bundle}, {handed:?}: {what}");
+            self.differs(|| text);
         }
     }
 
     /// The canvas colour of a sheet as loaded.
-    fn canvas(&mut self, sheet: &mut Sheet, handed: &Handed, style_type: u8) {
+    pub fn canvas(&mut self, sheet: &mut Sheet, handed: &Handed, style_type: u8) {
         self.cases += 1;
         let expected = canvas(&sheet.bundle, handed, style_type, &mut self.tally);
         let original = sheet.original.as_mut().map(|numbered| {
@@ -177,7 +159,8 @@ impl Run {
         };
         if let Some(what) = wrong {
             let texts = bundles::texts(&sheet.bundle);
-            self.differs(|_| format!("canvas, style type {style_type}, texts {texts:?}: {what}"));
+            let text = format!("canvas, style type {style_type}, texts {texts:?}: {what}");
+            self.differs(|| text);
         }
     }
 
@@ -186,7 +169,8 @@ impl Run {
         let expected = canvas(bundle, handed, style_type, &mut self.tally);
         if let Some(what) = unlike(&expected, our_canvas(bundle, handed, style_type)) {
             let bundle = bundle.escape_ascii();
-            self.differs(|_| format!("canvas, {about}: style type {style_type}, bundle {bundle}, {handed:?}: {what}"));
+            let text = format!("canvas, {about}: style type {style_type}, bundle {bundle}, {handed:?}: {what}");
+            self.differs(|| text);
         }
     }
 
@@ -222,11 +206,11 @@ impl Run {
 }
 
 /// A differing case with its first text and its tags cut down as far as it still differs.
-fn shown(files: &mut Files, sheet: &Sheet, entity: &Entity, zoom: u8, settings: &Settings, what: &str) -> String {
-    let until = Instant::now() + PATIENCE;
-    let texts = bundles::texts(&sheet.bundle);
-    let files = std::cell::RefCell::new(files);
-    let judged = |text: &str, entity: &Entity| {
+fn shown(bundle: &[u8], entity: &Entity, zoom: u8, settings: &Settings, what: &str) -> String {
+    let tries = Tries::new();
+    let texts = bundles::texts(bundle);
+    let files = std::cell::RefCell::new(Files::new());
+    let differs = |text: &str, entity: &Entity| {
         let mut texts = texts.clone();
         texts[0].1 = text;
         let mut sheet = Sheet::load(&mut files.borrow_mut(), bundles::of(&texts))?;
@@ -237,19 +221,13 @@ fn shown(files: &mut Files, sheet: &Sheet, entity: &Entity, zoom: u8, settings: 
     for k in (0..entity.tags.len()).rev() {
         let mut fewer = entity.clone();
         fewer.tags.remove(k);
-        if Instant::now() < until && judged(texts[0].1, &fewer).is_some() {
+        if tries.take() && differs(texts[0].1, &fewer).is_some() {
             entity = fewer;
         }
     }
-    let small = shrunk(texts[0].1, &|text| Instant::now() < until && judged(text, &entity).is_some());
-    let what = judged(&small, &entity).unwrap_or(what.to_string());
+    let small = shrunk(texts[0].1, &|text| tries.take() && differs(text, &entity).is_some());
+    let what = differs(&small, &entity).unwrap_or(what.to_string());
     format!("zoom {zoom}, {settings:?}, {}, text 0 {small:?} of {}: {what}", spelt(&entity), texts.len())
-}
-
-/// An entity to be printed.
-pub fn spelt(entity: &Entity) -> String {
-    let tags: Vec<_> = entity.tags.iter().map(|(k, v)| format!("{}={}", k.escape_ascii(), v.escape_ascii())).collect();
-    format!("kind {}, id {}, tags {tags:?}", entity.kind, entity.id)
 }
 
 /// What a styled layer has, in short.
@@ -291,7 +269,7 @@ fn brief((name, style): &(String, Style)) -> String {
     out
 }
 
-impl Run {
+impl Part<Tally> {
     fn written(&mut self) {
         for (text, kind, tags, style_type, font, answer) in EXAMPLES {
             let mut sheet = self.load(text);
@@ -305,7 +283,7 @@ impl Run {
             let got = values(&sheet, &got).expect("an example's styles");
             let got = got.iter().map(brief).collect::<Vec<_>>().join("|");
             if got != answer {
-                self.differs(|_| format!("example {text:?}: expected {answer:?}, the model has {got:?}"));
+                self.differs(move || format!("example {text:?}: expected {answer:?}, the model has {got:?}"));
             }
         }
         let mut sheet = self.load("way{} node{} area::x{}");
@@ -316,7 +294,7 @@ impl Run {
                 _ => None,
             };
             if read != answer || text.parse().ok() != answer {
-                self.differs(|_| format!("layer {text:?}: expected {answer:?}, the model has {read:?}"));
+                self.differs(move || format!("layer {text:?}: expected {answer:?}, the model has {read:?}"));
             }
             for kind in 0..=2 {
                 let tags = vec![(b"layer".to_vec(), text.as_bytes().to_vec())];
@@ -339,90 +317,57 @@ impl Run {
                 self.canvas(&mut sheet, &handed, style_type);
                 let got = canvas(&sheet.bundle, &handed, style_type, &mut Tally::default());
                 if got != Ok(answer) {
-                    self.differs(|_| format!("canvas of {text:?}: expected {answer:?}, the model has {got:?}"));
+                    self.differs(move || format!("canvas of {text:?}: expected {answer:?}, the model has {got:?}"));
                 }
             }
         }
     }
 
-    /// At least so many cases for random bundles; hands back how many of these.
-    fn random(&mut self, seed: u64, count: u64) -> u64 {
-        let until = self.cases + count;
-        let mut index = 0;
-        while self.cases < until {
-            let r = &mut Random::new(seed, index);
-            index += 1;
-            let bundle = match index % 12 {
-                0 => bundles::single(&wide_sheet(r)),
-                1..=2 => random_bundle(r),
-                _ => bundles::single(&style_sheet(r)),
-            };
-            if let Some(mut sheet) = Sheet::load(&mut self.files, bundle) {
-                self.entities(r, &mut sheet, ENTITIES);
-            }
+    fn sheet(&mut self, r: &mut Random, bundle: Vec<u8>, entities: usize) {
+        if let Some(mut sheet) = Sheet::load(&mut self.files, bundle) {
+            self.entities(r, &mut sheet, entities);
         }
-        index
     }
 
-    fn random_tables(&mut self, seed: u64, count: u64) {
-        let until = self.cases + count;
-        let mut index = 0;
-        while self.cases < until {
-            let r = &mut Random::new(seed, u64::MAX / 2 + index);
-            index += 1;
-            let Some(sheet) = Sheet::load(&mut self.files, bundles::single(&style_sheet(r))) else { continue };
-            if index % 200 == 0 {
-                self.spoils(r, &sheet);
-                continue;
-            }
-            for _ in 0..ENTITIES {
-                let (entity, zoom) = style_entity(r, &sheet.load);
-                let entity = entities::bytes(&entity);
-                let tables = twisted(r, &sheet.handed, sheet.bundle.len());
-                self.call(&sheet.bundle, &tables, zoom, &settings(r), &entity, "twisted tables");
-                self.any_canvas(&sheet.bundle, &tables, r.below(3) as u8, "twisted tables");
-                let entity = entities::bytes(&piece_entity(r, &sheet.bundle));
-                let tables = sound_tables(r, sheet.bundle.len());
-                self.call(&sheet.bundle, &tables, zoom, &settings(r), &entity, "sound tables");
-            }
+    fn random_tables(&mut self, r: &mut Random, index: u64) {
+        let Some(sheet) = Sheet::load(&mut self.files, bundles::single(&style_sheet(r))) else { return };
+        if index % 200 == 0 {
+            return self.spoils(r, &sheet);
+        }
+        for _ in 0..ENTITIES {
+            let (entity, zoom) = style_entity(r, &sheet.load);
+            let entity = entities::bytes(&entity);
+            let tables = twisted(r, &sheet.handed, sheet.bundle.len());
+            self.call(&sheet.bundle, &tables, zoom, &settings(r), &entity, "twisted tables");
+            self.any_canvas(&sheet.bundle, &tables, r.below(3) as u8, "twisted tables");
+            let entity = entities::bytes(&piece_entity(r, &sheet.bundle));
+            let tables = sound_tables(r, sheet.bundle.len());
+            self.call(&sheet.bundle, &tables, zoom, &settings(r), &entity, "sound tables");
         }
     }
 }
 
-/// `count` random cases of the seed, and half as many calls with other tables.
-pub fn run(seed: u64, count: u64) -> bool {
-    let mut run = Run { cases: 0, compared: 0, differences: 0, tally: Tally::default(), files: Files::new() };
-    run.written();
-    println!("{} written cases", run.cases);
-
-    let r = &mut Random::new(seed, u64::MAX);
-    let before = run.cases;
-    for texts in sheet_bundles() {
-        let mut sheet = Sheet::load(&mut run.files, bundles::of(&texts)).expect("a sheet");
-        run.entities(r, &mut sheet, 100 + count as usize / 200);
-    }
-    println!("{} cases for the sheets", run.cases - before);
-
-    let before = run.cases;
-    let sheets = run.random(seed, count);
-    println!("{} cases for {sheets} random bundles of seed {seed}", run.cases - before);
-
-    let before = run.cases;
-    let sheet = run.load(SPOILT);
-    run.spoils(r, &sheet);
-    large(&mut |about, handed| run.call(&[], handed, 0, &settings(r), &[0, 0, 0], about));
-    run.random_tables(seed, count / 2);
-    println!("{} calls with twisted, sound or spoilt tables", run.cases - before);
-
-    let all_met = run.tally.print();
-    if !all_met {
-        println!("a field, a value, a refusal, a count or a shape never came up");
-    }
-    println!("{} of {} styles have an answer of the original", run.compared, run.cases);
-    if cfg!(not(feature = "rattle")) {
-        println!("{} styles, {} differences of the model, ours not compared", run.cases, run.differences);
-        return false;
-    }
-    println!("{} styles, {} differences", run.cases, run.differences);
-    all_met && run.differences == 0
+/// Entities for the sheets and for random bundles, about `count`, and half as many calls with other tables.
+pub fn plan(plan: &mut Plan, count: u64) {
+    plan.one("styles: written", |run| run.styles.written());
+    let sheets = sheets::bundles();
+    plan.many("styles: sheets", sheets.len() as u64 * (2 + count / 10_000), 4, |run, r, index| {
+        run.styles.sheet(r, bundles::of(&sheets[index as usize % sheets.len()]), 50);
+    });
+    plan.many("styles: random bundles", count / ENTITIES as u64, 500, |run, r, index| {
+        let bundle = match index % 12 {
+            0 => bundles::single(&wide_sheet(r)),
+            1..=2 => random_bundle(r),
+            _ => bundles::single(&style_sheet(r)),
+        };
+        run.styles.sheet(r, bundle, ENTITIES);
+    });
+    plan.many("styles: small tables spoilt word by word, and large ones", 1, 1, |run, r, _| {
+        let sheet = run.styles.load(SPOILT);
+        run.styles.spoils(r, &sheet);
+        large(&mut |about, handed| run.styles.call(&[], handed, 0, &settings(r), &[0, 0, 0], about));
+    });
+    plan.many("styles: twisted, sound or spoilt tables", count / 6 / ENTITIES as u64, 500, |run, r, index| {
+        run.styles.random_tables(r, index);
+    });
 }

@@ -3,7 +3,8 @@
 use crate::loads::Entry;
 use crate::maps;
 use crate::styles::{Level, Row, Settings, COLORS, NAMES};
-use crate::tally::Line;
+use crate::tally::{self, Line};
+use std::sync::OnceLock;
 
 /// The fields of a style, and the word that says whether each is there.
 const FIELDS: [(&str, usize); 19] = [
@@ -37,6 +38,7 @@ const REFUSALS: [u64; 6] = [2, 7, 8, 22, 23, 24];
 const CANVAS: [&str; 5] = ["JOSM", "JOSM none", "MapsMe", "MapsMe none", "22"];
 
 /// How often each field was there and absent, each kind of value of each property, and so on.
+#[derive(Clone)]
 pub struct Tally {
     pub maps: maps::Tally,
     there: Line,
@@ -56,6 +58,13 @@ pub struct Tally {
 
 impl Default for Tally {
     fn default() -> Tally {
+        static EMPTY: OnceLock<Tally> = OnceLock::new();
+        EMPTY.get_or_init(Tally::empty).clone()
+    }
+}
+
+impl Tally {
+    fn empty() -> Tally {
         let fields = FIELDS.map(|(name, _)| name);
         let choice = |name: &str, at: usize, names: &[&str]| (at, Line::new(name, names));
         let caps = ["none", "butt", "round", "square"];
@@ -67,8 +76,8 @@ impl Default for Tally {
         }
         Tally {
             maps: maps::Tally::default(),
-            there: Line::new("there", fields),
-            absent: Line::new("absent", fields),
+            there: Line::new("field there", fields),
+            absent: Line::new("field absent", fields),
             choices: vec![
                 choice("is_foreground_fill", 2, &["false", "true"]),
                 choice("line_cap", 8, &caps),
@@ -78,12 +87,12 @@ impl Default for Tally {
                 choice("fill_image", 42, &["none", "text", "joined"]),
                 choice("text", 47, &["none", "text", "joined"]),
             ],
-            values: NAMES.iter().map(|name| Line::new(&format!("values of {name}"), KINDS)).collect(),
-            colors: Line::new("colours by name", COLORS.iter().map(|(name, _)| *name).chain(["other"])),
+            values: NAMES.iter().map(|name| Line::new(&format!("value of {name}"), KINDS)).collect(),
+            colors: Line::new("colour by name", COLORS.iter().map(|(name, _)| *name).chain(["other"])),
             levels: Line::new("tag layer", LEVELS),
             z_indices: Line::new("z-index", Z_INDICES),
             casings: Line::new("casing-width", casings),
-            fonts: Line::new("font multipliers", FONTS),
+            fonts: Line::new("font multiplier", FONTS),
             refused: Line::new("refused", REFUSALS),
             layers: Line::new("styled layers", 0..=32),
             canvas: Line::new("canvas colour", CANVAS),
@@ -178,15 +187,15 @@ impl Tally {
         let place = |found: Option<_>| 2 * usize::from(style_type == 1) + usize::from(found.is_none());
         self.canvas.met(answer.map_or(CANVAS.len() - 1, place));
     }
+}
 
-    /// Prints all counts; false if one is 0.
-    pub fn print(&self) -> bool {
-        let mut lines = vec![&self.there, &self.absent];
-        lines.extend(self.choices.iter().map(|(_, line)| line));
-        lines.extend(&self.values);
-        lines.extend([&self.colors, &self.levels, &self.z_indices, &self.casings, &self.fonts]);
-        lines.extend([&self.refused, &self.layers, &self.canvas]);
-        // all are printed
-        lines.iter().map(|line| line.print()).fold(true, |met, all| met & all)
+impl tally::Tally for Tally {
+    fn lines(&mut self) -> Vec<&mut Line> {
+        let mut lines = vec![&mut self.there, &mut self.absent];
+        lines.extend(self.choices.iter_mut().map(|(_, line)| line));
+        lines.extend(&mut self.values);
+        lines.extend([&mut self.colors, &mut self.levels, &mut self.z_indices, &mut self.casings, &mut self.fonts]);
+        lines.extend([&mut self.refused, &mut self.layers, &mut self.canvas]);
+        lines
     }
 }

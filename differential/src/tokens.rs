@@ -1,6 +1,7 @@
 //! Token streams: one neutral form for both tokenizers, and its bytes in a sample.
 
 use crate::mapcss::token::probe;
+use crate::tally::{Line, Tally};
 
 pub const END: u8 = 0;
 pub const ERROR: u8 = 1;
@@ -139,28 +140,30 @@ pub fn put(out: &mut Vec<u8>, n: usize) {
 }
 
 /// How often each kind and each reason came up.
-#[derive(Default)]
 pub struct Counts {
-    kinds: [u64; KINDS.len()],
-    reasons: [u64; REASONS + 1],
+    kinds: Line,
+    reasons: Line,
+}
+
+impl Default for Counts {
+    fn default() -> Counts {
+        Counts { kinds: Line::new("kind", KINDS), reasons: Line::new("3, reason", 1..=REASONS) }
+    }
 }
 
 impl Counts {
     pub fn add(&mut self, steps: &[Step]) {
         for s in steps {
-            self.kinds[s.kind as usize] += 1;
+            self.kinds.met(s.kind as usize);
             if let Payload::Reason(reason) = s.payload {
-                self.reasons[reason as usize] += 1;
+                self.reasons.met(reason as usize - 1);
             }
         }
     }
+}
 
-    /// Prints all counts; false if one is 0.
-    pub fn print(&self) -> bool {
-        let kinds: Vec<_> = KINDS.iter().zip(self.kinds).map(|(name, n)| format!("{name} {n}")).collect();
-        let reasons: Vec<_> = (1..=REASONS).map(|r| format!("{r}: {}", self.reasons[r])).collect();
-        println!("kinds: {}", kinds.join(", "));
-        println!("reasons: {}", reasons.join(", "));
-        !self.kinds.contains(&0) && !self.reasons[1..].contains(&0)
+impl Tally for Counts {
+    fn lines(&mut self) -> Vec<&mut Line> {
+        vec![&mut self.kinds, &mut self.reasons]
     }
 }

@@ -68,6 +68,12 @@ impl Numbered {
         color(&self.styler.canvas_fill_color)
     }
 
+    /// The canvas colour for a style type, looked up anew, for timing.
+    pub fn canvas_of(&self, style_type: u8) -> Option<Color> {
+        let style_type = if style_type == 1 { StyleType::MapsMe } else { StyleType::Josm };
+        extract_canvas_fill_color(&self.styler.rules, &style_type)
+    }
+
     /// The styles that `style_entities` makes of an entity, in order of the layers, which it sorts only then. It cannot be
     /// called itself where two of them have a z-index of NaN.
     fn raw_styles<'r, 'e, A>(&'r self, area: &A, zoom: u8) -> Vec<(&'r str, Style)>
