@@ -63,6 +63,11 @@ unfolding ended
 ended-entries none xs p = cc
 ended-entries (some r) xs p = declined-entries r xs p
 
+ended-none : (o : Option Refusal) (xs : List Drawn) → ended o ≡ entries xs → o ≡ none
+unfolding ended
+ended-none none xs p = refl
+ended-none (some r) xs p = declined-entries r xs p
+
 module _ (room : ℕ) (mp : Bool) (s : theory.Settings) (z : ℕ) (rs : List (Rule Value)) where
   within-stream :
       (n i : ℕ) (es : List Entity) (xs : List Drawn)
@@ -85,6 +90,11 @@ module _ (room : ℕ) (mp : Bool) (s : theory.Settings) (z : ℕ) (rs : List (Ru
       let j = joined _++_ (streamWithin room mp s z rs n 0 (es .entities)) (ended (es .stopped)) xs p in
       let e = ended-entries (es .stopped) (j .1) (j .3) in
       within-stream n 0 (es .entities) (j .0) (j .2) ∙ ap entries (sym (j .4 ∙ (rw (e, append-nil))))
+
+  drawn-whole : (n : ℕ) (es : Stream) (xs : List Drawn) → streamDrawn room s z rs mp n es ≡ entries xs → es .stopped ≡ none
+  drawn-whole n es xs p =
+      let j = joined _++_ (streamWithin room mp s z rs n 0 (es .entities)) (ended (es .stopped)) xs p in
+      ended-none (es .stopped) (j .1) (j .3)
 
 written-entries :
     (len : ℕ) (d : Drawing) (count : ℕ) (words : List ℕ)
@@ -111,7 +121,8 @@ nodes-ordered-of-sheet bundle l n h r zoom s len nodes count words p =
     let o =
     entities-ordered t zoom rs (es .entities) (w .0)
     (join-entries f (stream false t zoom rs 0 (es .entities)) (entries []) (j .0) [] (w .0) q refl (j .4)) in
-    (o .0, o .1, record { drawn = w .0; ordered = o .2; counted = w .2; spelled = w .3 })
+    let v = drawn-whole (roomOf len) false t zoom rs 0 es (j .0) (j .2) in
+    (v, o .0, o .1, record { drawn = w .0; ordered = o .2; counted = w .2; spelled = w .3 })
 
 pub areas-ordered-of-sheet : AreasOrdered
 unfolding settingsShown
@@ -133,4 +144,6 @@ areas-ordered-of-sheet bundle l n h r zoom s len ways multipolygons count words 
     areas-ordered t zoom rs (es .entities) (fs .entities) (w .0)
     (join-entries f (stream false t zoom rs 0 (es .entities)) (stream true t zoom rs 0 (fs .entities)) (j .0) (j .1) (w .0) x y
     (j .4)) in
-    (o .0, o .1, o .2, o .3, record { drawn = w .0; ordered = o .4; counted = w .2; spelled = w .3 })
+    let u = drawn-whole (roomOf len) false t zoom rs 0 es (j .0) (j .2) in
+    let v = drawn-whole (roomOf len) true t zoom rs (size a) fs (j .1) (j .3) in
+    (u, v, o .0, o .1, o .2, o .3, record { drawn = w .0; ordered = o .4; counted = w .2; spelled = w .3 })

@@ -5,6 +5,7 @@ use mathlib.Core.Path.{_≡_}
 use mathlib.Core.Bool.{Bool, true, false}
 use mathlib.Core.List.{List, _++_, map}
 use lib.ListN.{length}
+use mathlib.Core.Option.{none}
 use Rattle.base.specs.Bytes.{Bytes}
 use Rattle.base.specs.Table.{padded, flat}
 use Rattle.color.specs.declared.NamedColor.{NamedColor}
@@ -77,13 +78,14 @@ pub record Listing (forLabels : Bool) (given : List Drawn) (len count : ℕ) (wo
   pub counted : count ≡ length drawn
   pub spelled : words ≡ padded 0 len (flat (map drawnWords drawn))
 
--- A list of nodes that is not refused holds every styled layer of every node, in drawing order.
+-- A list of nodes that is not refused: all bytes of its stream are entities, and it holds every styled layer of each, in drawing order.
 abbrev pub NodesOrdered : Type 0
 NodesOrdered =
     (bundle : Bytes) (l : Lengths) (n : Counts) (h : Held) (r : Loads bundle l n h) (zoom : ℕ) (s : Settings) (len : ℕ) (nodes : Bytes)
     (count : ℕ) (words : List ℕ)
     → nodesCall bundle n h zoom s len nodes ≡ (Listed count, words)
-    → (given : List Drawn)
+    → (streamOf Nodes false nodes .stopped ≡ none)
+    × (given : List Drawn)
     × (stream false (settingsShown s) zoom (rulesOfReading digitsOf (r .js)) 0 (streamOf Nodes false nodes .entities) ≡ entries given)
     × Listing (s .«for_labels») given len count words
 
@@ -93,7 +95,9 @@ AreasOrdered =
     (bundle : Bytes) (l : Lengths) (n : Counts) (h : Held) (r : Loads bundle l n h) (zoom : ℕ) (s : Settings) (len : ℕ)
     (ways multipolygons : Bytes) (count : ℕ) (words : List ℕ)
     → areasCall bundle n h zoom s len ways multipolygons ≡ (Listed count, words)
-    → (ofWays : List Drawn)
+    → (streamOf Areas false ways .stopped ≡ none)
+    × (streamOf Areas true multipolygons .stopped ≡ none)
+    × (ofWays : List Drawn)
     × (ofMultipolygons : List Drawn)
     × (stream false (settingsShown s) zoom (rulesOfReading digitsOf (r .js)) 0 (streamOf Areas false ways .entities) ≡ entries ofWays)
     × (stream true (settingsShown s) zoom (rulesOfReading digitsOf (r .js)) 0 (streamOf Areas true multipolygons .entities)
