@@ -117,6 +117,20 @@ def clauses(text):
     return spans
 
 
+def crates(root):
+    return {c for c in os.listdir(os.path.join(root, "crates")) if os.path.isdir(os.path.join(root, "crates", c, "src"))}
+
+
+def of_libraries(text, own):
+    """The names that a file imports from libraries: they keep the library's spelling there."""
+    names = set()
+    for m in re.finditer(r"(?m)^\s*(?:pub )?(?:ghost )?use ([^\s{}]+)\.\{([^}]*)\}", text):
+        head = m[1].split(".")
+        if not (head[0] == "Rattle" and len(head) > 1 and head[1] in own):
+            names |= {w.split(" as ")[0].strip() for w in m[2].split(",")}
+    return names
+
+
 def respelled(text, names):
     out, i = [], 0
     piece = re.compile(r"--[^\n]*|\"(?:[^\"\\\n]|\\.)*\"|" + CHAR + "+")
@@ -218,11 +232,16 @@ def main(argv):
             json.dump(names, f, ensure_ascii=False, indent=0, sort_keys=True)
     if "--dry" in argv or (bad and "--force" not in argv):
         return 1 if bad else 0
+    own = crates(root)
     for path in texts(root, (".antt", ".rt", ".edit")):
         with open(path, encoding="utf-8") as f:
             t = f.read()
+        lent = of_libraries(t, own) & names.keys()
+        here = {n: new for n, new in names.items() if n not in lent}
+        if lent:
+            print("kept, of a library:", path, " ".join(sorted(lent)), file=sys.stderr)
         turn = respelled if path.endswith(".antt") else respelled_source if path.endswith(".rt") else respelled_edit
-        new = turn(t, names)
+        new = turn(t, here)
         if new != t:
             with open(path, "w", encoding="utf-8") as f:
                 f.write(new)

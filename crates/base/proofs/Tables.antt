@@ -1,6 +1,6 @@
 -- The laws of a lent table, over any element type and any stride.
 use mathlib.Core.Path.{◌≡◌, refl, sym, ap, ◌∙◌}
-use mathlib.Core.List.{List, [], ◌∷◌, ◌++◌, append_assoc, append_nil}
+use mathlib.Core.List.{List, [], ◌∷◌, ◌++◌, append_assoc, append-nil}
 use Prim.Native.Nat.{ℕ, zero, suc, ◌+◌, ◌-◌, ◌*◌, ◌/◌, min, ◌≤◌, ◌<◌}
 use native.Mathlib.Nat.{sub_self, add-zero, sub-zero}
 use native.Mathlib.Numerals.{add-one}
@@ -45,7 +45,7 @@ module _ {A : Type 0} where
       let m : length t₀ ≤ i = omega arith in
       c.is
       ∙ ap (λ (r : List A). replicate i z ++ r) (drop_of_length-le t₀ m)
-      ∙ append_nil (replicate i z)
+      ∙ append-nil (replicate i z)
       ∙ ap (λ (k : ℕ). replicate k z) n
 
   -- a table with no entry is all filler
@@ -72,7 +72,7 @@ module _ {A : Type 0} where
       → length es ≡ i
       → i + length vs ≤ len
       → stored (padded z len es) i vs ≡ padded z len (es ++ vs)
-  padded_stored z len es i [] e h = ap (padded z len) (sym (append_nil es))
+  padded_stored z len es i [] e h = ap (padded z len) (sym (append-nil es))
   padded_stored z len es i (v ∷ vs) e h =
       let l : length (es ++ (v ∷ [])) ≡ i + 1 = length-append es (v ∷ []) ∙ omega arith in
       rw (padded_set z len es i v e (omega arith))
@@ -106,7 +106,7 @@ module _ {A : Type 0} where
       → stored (padded z len (flat es)) (n * k) e ≡ padded z len (flat (es ++ (e ∷ [])))
   padded_entry z len k n es e p q h =
       padded_stored z len (flat es) (n * k) e p (omega arith)
-      ∙ ap (padded z len) (sym (flat_append es (e ∷ []) ∙ ap (λ (r : List A). flat es ++ r) (append_nil e)))
+      ∙ ap (padded z len) (sym (flat_append es (e ∷ []) ∙ ap (λ (r : List A). flat es ++ r) (append-nil e)))
 
   -- within a list the default does not matter
   pub get_d_within : (l : List A) (i : ℕ) (d e : A) → i < length l → get_or l i d ≡ get_or l i e

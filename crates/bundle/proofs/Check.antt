@@ -3,7 +3,7 @@ use Prim.Native.Nat.{ℕ, zero, suc, ◌+◌, ◌-◌, ◌<◌, ◌≤◌}
 use native.Mathlib.Omega.{arith}
 use mathlib.Core.Path.{◌≡◌, refl, sym, ◌∙◌, ap, ap₂, subst}
 use mathlib.Core.Bool.{Bool, true, false}
-use mathlib.Core.List.{List, [], ◌∷◌, ◌++◌, map, append_nil}
+use mathlib.Core.List.{List, [], ◌∷◌, ◌++◌, map, append-nil}
 use lib.Dec.{eqb, ltb}
 use lib.ListN.{length, drop, length-append, length-drop, length-map}
 use borrow.Author.Tests.{eq-eqb, ne_eqb, lt-ltb, le-ltb, eqb-true, eqb-false, ltb-false}
@@ -117,7 +117,7 @@ module _ (m : Map Bytes) (t : IsTexts m) where
 
   behind_count : drop (length (group_of (length m))) (bundle_bytes m) ≡ map_bytes m ++ []
   unfolding bundle_bytes
-  behind_count = lib.Seq.drop-append_seam (group_of (length m)) (map_bytes m) ∙ sym (append_nil (map_bytes m))
+  behind_count = lib.Seq.drop-append_seam (group_of (length m)) (map_bytes m) ∙ sym (append-nil (map_bytes m))
 
   texts_short : AllShort m
   unfolding bundle_bytes
@@ -225,7 +225,7 @@ module _ (s : Bytes) (all : AllBytes s) (b : is_bundle s ≡ true) where
       ∙ ap (λ (k : Bytes). group_of (count_of s) ++ k)
       (pairs_written (count_of s) s (first_at s) (length s) all l.ends
       ∙ ap (λ (k : Bytes). map_bytes m ++ k) (lib.Seq.drop-length s)
-      ∙ append_nil (map_bytes m)))
+      ∙ append-nil (map_bytes m)))
 
   -- and the texts are within the limits
   pub texts_within : IsTexts (texts_of s)

@@ -2,7 +2,7 @@
 use Rattle.std.specs.Prelude.{◌≡◌, false, cond}
 use Rattle.std.proofs.Math.Path.{refl, sym}
 use Rattle.std.proofs.Common.{◌∙◌, ap}
-use mathlib.Core.List.{List, [], ◌∷◌, ◌++◌, foldl, foldl-append, map, append_assoc, append_nil, map-map, map-append, flat_map}
+use mathlib.Core.List.{List, [], ◌∷◌, ◌++◌, foldl, foldl-append, map, append_assoc, append-nil, map-map, map-append, flat_map}
 use Rattle.std.proofs.Math.Option.{none, some, get_or}
 use Rattle.base.specs.Bytes.{Bytes, same}
 use Rattle.base.specs.Choice.{by-test, or_left, or_right}
@@ -92,7 +92,7 @@ module _ {A : Type 0} where
       ∙ folded_declared (hs ++ (h ∷ [])) (named (hs ++ (h ∷ [])))
 
   pub run_declared : (done hs : List (Hit A)) → foldl step (declared done) hs ≡ declared (done ++ hs)
-  run_declared done [] = rw (append_nil done)
+  run_declared done [] = rw (append-nil done)
   run_declared done (h ∷ hs) = rw (step_declared done h, run_declared (done ++ (h ∷ [])) hs, append_assoc done (h ∷ []) hs)
 
   -- the cascade step by step is the declared one

@@ -1,6 +1,6 @@
 -- Tag numbers and `layer` tags are read from exactly the texts of the grammar.
 use Rattle.std.specs.Prelude.{ℕ, ◌≤◌, ◌≡◌, refl, ◌↔◌, ◌⊎◌, Bool, true, false, List, [], ◌∷◌, ◌++◌, map, eqb, leb, length, ℤ, pos, ◌-ℤ◌, Float}
-use Rattle.std.proofs.Common.{arith, sym, ◌∙◌, ap, ap₂, subst, inl, inr, append_nil, eqb-true, ne_eqb, leb-true}
+use Rattle.std.proofs.Common.{arith, sym, ◌∙◌, ap, ap₂, subst, inl, inr, append-nil, eqb-true, ne_eqb, leb-true}
 use Rattle.std.proofs.Math.Bool.{and-false}
 use Rattle.std.proofs.Math.Option.{Option, none, some}
 use Rattle.std.specs.Float.{nan, inf}
@@ -48,7 +48,7 @@ whole_read : (d : ℕ) (ds : Bytes) → all_digits (d ∷ ds) ≡ true → whole
 unfolding whole_number Ends
 whole_read d ds a =
     let i = digits_of (d ∷ ds) [] a tt in
-    let e : after_digits (d ∷ ds) ≡ [] = ap after_digits (sym (append_nil (d ∷ ds))) ∙ i.1 in
+    let e : after_digits (d ∷ ds) ≡ [] = ap after_digits (sym (append-nil (d ∷ ds))) ∙ i.1 in
     rw (e, same_refl [])
 
 whole_spelt :
@@ -63,7 +63,7 @@ whole_spelt (d ∷ ds) n p =
     let q = rw h at p in
     let i = digits_all (d ∷ ds) in
     let e = same_true (after_digits (d ∷ ds)) [] h in
-    let f : d ∷ ds ≡ digits (d ∷ ds) = i.1 ∙ ap (λ r. digits (d ∷ ds) ++ r) e ∙ append_nil (digits (d ∷ ds)) in
+    let f : d ∷ ds ≡ digits (d ∷ ds) = i.1 ∙ ap (λ r. digits (d ∷ ds) ++ r) e ∙ append-nil (digits (d ∷ ds)) in
     (d, ds, refl, ap all_digits f ∙ i.0, cc))
     (λ h. none_some n (rw h at p))
 

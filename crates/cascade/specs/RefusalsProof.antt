@@ -3,7 +3,7 @@ use Rattle.std.specs.Prelude.{ℕ, ◌<◌, ◌≡◌, ◌↔◌, ◌⊎◌, tru
 use Rattle.std.proofs.Common.{arith, sym, ◌∙◌, subst, inl, inr}
 use Rattle.std.proofs.Math.Path.{refl, ap}
 use Rattle.std.proofs.Math.Bool.{or-true}
-use mathlib.Core.List.{List, [], ◌∷◌, ◌++◌, map, append_assoc, append_nil}
+use mathlib.Core.List.{List, [], ◌∷◌, ◌++◌, map, append_assoc, append-nil}
 use Rattle.std.proofs.lemmas.List.{length-map}
 use borrow.Author.Tests.{ltb-true, ltb-false, lt-ltb, le-ltb}
 use Rattle.base.specs.Bytes.{Bytes, same}
@@ -71,7 +71,7 @@ module _ {A : Type 0} where
 
     hits_fail : (cs : List (Clause A)) (c : Clause A) → verdict z e c.selector ≡ fail → hits z e (cs ++ (c ∷ [])) ≡ hits z e cs
     unfolding hits keep
-    hits_fail cs c v = hits_append z e cs (c ∷ []) ∙ (rw (v, append_nil))
+    hits_fail cs c v = hits_append z e cs (c ∷ []) ∙ (rw (v, append-nil))
 
     -- the layers after a matched selector
     after_pass :
@@ -100,7 +100,7 @@ module _ {A : Type 0} where
         → ◌≡◌ {A = Answer A} (refused m) (refused n)
         → Found done (c ∷ cs) n
     unfolding walk
-    at_once done c cs m n k p = ([], c, cs, refl, (rw (append_nil done)), (rw (append_nil done) (given_by done c m n p k)))
+    at_once done c cs m n k p = ([], c, cs, refl, (rw (append-nil done)), (rw (append-nil done) (given_by done c m n p k)))
 
     past_pass :
         (done : List (Clause A)) (c : Clause A) (cs : List (Clause A)) (n : ℕ)

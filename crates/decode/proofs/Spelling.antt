@@ -2,7 +2,7 @@
 use Prim.Native.Nat.{ℕ, ◌-◌, ◌*◌, ◌<◌, ◌≤◌}
 use native.Mathlib.Omega.{arith}
 use mathlib.Core.Path.{◌≡◌, refl, sym, ◌∙◌, ap, ap₂, subst}
-use mathlib.Core.List.{List, [], ◌∷◌, ◌++◌, map, append_nil, append_assoc}
+use mathlib.Core.List.{List, [], ◌∷◌, ◌++◌, map, append-nil, append_assoc}
 use mathlib.Core.Option.{Option}
 use lib.Ieee.{Float}
 use lib.ListN.{length, get_or, drop}
@@ -433,7 +433,7 @@ module _ (bundle : Bytes) where
           → Good ρ rs ss ts ps
           → Good (add_rows ρ (tests_entries xs)) rs ss (ts ++ map (test_of digits_for) xs) ps
       unfolding add_rows tests_entries
-      good_tests [] ρ ts none_left v = subst (λ ts. Good ρ rs ss ts ps) (sym (append_nil ts)) v
+      good_tests [] ρ ts none_left v = subst (λ ts. Good ρ rs ss ts ps) (sym (append-nil ts)) v
       good_tests (x ∷ xs) ρ ts (and_then d ds) v =
           rw (rows_append (test_entries x) (tests_entries xs) ρ)
           (subst (λ ts. Good (add_rows (add_rows ρ (test_entries x)) (tests_entries xs)) rs ss ts ps)
@@ -453,7 +453,7 @@ module _ (bundle : Bytes) where
         → ((add_rows ρ (numbers_entries xs)).numbers ≡ ρ.numbers ++ xs)
         × ((add_rows ρ (numbers_entries xs)).tally.number ≡ ρ.tally.number)
     unfolding add_rows numbers_entries
-    numbers_stored [] ρ = (sym (append_nil ρ.numbers), refl)
+    numbers_stored [] ρ = (sym (append-nil ρ.numbers), refl)
     numbers_stored (x ∷ xs) ρ =
         let h = numbers_stored xs (add_row ρ (number_entry x)) in
         (h.0 ∙ append_assoc ρ.numbers (x ∷ []) xs, h.1)
@@ -482,7 +482,7 @@ module _ (bundle : Bytes) where
           → Good ρ rs ss ts ps
           → Good (add_rows ρ (properties_entries qs)) rs ss ts (ps ++ map (property_of digits_for) qs)
       unfolding add_rows properties_entries
-      good_properties [] ρ ps none_left v = subst (Good ρ rs ss ts) (sym (append_nil ps)) v
+      good_properties [] ρ ps none_left v = subst (Good ρ rs ss ts) (sym (append-nil ps)) v
       good_properties (q ∷ qs) ρ ps (and_then d ds) v =
           let φ = add_rows ρ (value_entries q.value) in
           let w = good_value_lem q.value ρ v in
@@ -502,7 +502,7 @@ module _ (bundle : Bytes) where
         → Good (add_rows ρ (selectors_entries σs es)) (f (ss ++ map (selector_of digits_for) σs)) [] [] []
     unfolding add_rows selectors_entries
     good_selectors [] es rs f k ρ ss none_left v =
-        subst (λ ss. Good (add_rows ρ es) (f ss) [] [] []) (sym (append_nil ss)) (k ρ ss v)
+        subst (λ ss. Good (add_rows ρ es) (f ss) [] [] []) (sym (append-nil ss)) (k ρ ss v)
     good_selectors (σ ∷ σs) es rs f k ρ ss (and_then d ds) v =
         let φ = add_rows ρ (tests_entries σ.tests) in
         let w = good_tests σ.tests ρ [] d.1 v in
@@ -533,7 +533,7 @@ module _ (bundle : Bytes) where
         → Good ρ rs [] [] []
         → Good (add_rows ρ (entries_of js)) (rs ++ rules_of_reading digits_for js) [] [] []
     unfolding add_rows entries_of rules_of
-    good_reading [] ρ rs none_left v = subst (λ rs. Good ρ rs [] [] []) (sym (append_nil rs)) v
+    good_reading [] ρ rs none_left v = subst (λ rs. Good ρ rs [] [] []) (sym (append-nil rs)) v
     good_reading (rule_item r ∷ js) ρ rs (and_then d ds) v =
         rw (rows_append (rule_entries r) (entries_of js) ρ)
         (subst (λ rs. Good (add_rows (add_rows ρ (rule_entries r)) (entries_of js)) rs [] [] [])

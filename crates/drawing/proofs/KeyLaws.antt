@@ -2,7 +2,7 @@
 use Prim.Native.Nat.{ℕ, zero, suc, ◌+◌, ◌-◌, ◌*◌, ◌≤◌, ◌<◌}
 use mathlib.Core.Path.{◌≡◌, refl, sym, ◌∙◌, ap, subst}
 use mathlib.Core.Bool.{Bool, true, false, not}
-use mathlib.Core.List.{List, [], ◌∷◌, ◌++◌, map, append_assoc, append_nil}
+use mathlib.Core.List.{List, [], ◌∷◌, ◌++◌, map, append_assoc, append-nil}
 use native.Mathlib.Omega.{arith}
 use lib.Dec.{T}
 use lib.IntN.{ℤ, pos}
@@ -257,7 +257,7 @@ module _ (room : ℕ) (ks : List Key) where
   unfolding push pick
   push_none h =
       let e : length ks + 0 ≡ length ks = omega arith in
-      rw (e, le-ltb room (length ks) h) (ap gathered (sym (append_nil ks)))
+      rw (e, le-ltb room (length ks) h) (ap gathered (sym (append-nil ks)))
 
 module _
     (bundle : Bytes) (selectors properties : List ℕ) (numbers : List Float) (for_labels multipolygons : Bool) (place kind id : ℕ)

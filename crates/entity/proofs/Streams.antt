@@ -3,7 +3,7 @@ use Prim.Native.Nat.{ℕ, zero, suc, ◌+◌, ◌-◌, ◌<◌, ◌≤◌}
 use native.Mathlib.Omega.{arith}
 use mathlib.Core.Path.{◌≡◌, refl, sym, ◌∙◌, ap}
 use mathlib.Core.Bool.{Bool, true, false}
-use mathlib.Core.List.{List, [], ◌∷◌, ◌++◌, append_nil}
+use mathlib.Core.List.{List, [], ◌∷◌, ◌++◌, append-nil}
 use mathlib.Core.Option.{Option, none, some}
 use lib.ListN.{length, drop, length-append, length-drop}
 use borrow.Author.Tests.{le-leb, lt-leb, le-ltb, eq-eqb}
@@ -55,7 +55,7 @@ pub single_read :
     → (r : EntityRange) × ((single_of (entity_bytes e) ≡ OneEntity r) × (value_of (entity_bytes e) r ≡ e))
 single_read e ok =
     let s = entity_bytes e in
-    let o = entity_read Any s 0 e [] ok.limits ok.fits (sym (append_nil s)) in
+    let o = entity_read Any s 0 e [] ok.limits ok.fits (sym (append-nil s)) in
     let h : o.place.end ≡ length s = o.end ∙ native.Mathlib.Nat.zero-add (length s) in
     (o.place, (single_is s o.place o.is h (ap all_utf8 (tags_are s o.place e o.value) ∙ ok.utf8), o.value))
 

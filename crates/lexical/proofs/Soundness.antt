@@ -4,7 +4,7 @@ use native.Mathlib.Omega.{arith}
 use mathlib.Core.Path.{◌≡◌, refl, sym, ◌∙◌, ap, subst}
 use mathlib.Core.Bool.{true, false}
 use mathlib.Core.Logic.{◌⊎◌, inl, inr}
-use mathlib.Core.List.{[], ◌∷◌, ◌++◌, append_nil, append_assoc}
+use mathlib.Core.List.{[], ◌∷◌, ◌++◌, append-nil, append_assoc}
 use lib.Dec.{eqb}
 use lib.ListN.{length}
 use Rattle.base.specs.Bytes.{Bytes}
@@ -200,7 +200,7 @@ space_skips s c d k q t =
     record { chars = k ∷ []; reads = walk_reads (walk_one q); before = λ ks rest e b. space t b }
 
 last_line_lem : (xs : Chars) → Run is_newline false xs → (ks rest : Chars) → ks ++ rest ≡ [] → IsBlank (47 ∷ 47 ∷ xs ++ ks) rest
-last_line_lem xs r [] [] e = subst (λ js. IsBlank (47 ∷ 47 ∷ js) []) (sym (append_nil xs)) (last_line r)
+last_line_lem xs r [] [] e = subst (λ js. IsBlank (47 ∷ 47 ∷ js) []) (sym (append-nil xs)) (last_line r)
 last_line_lem xs r [] (j ∷ js) e = absurd (not_empty e)
 last_line_lem xs r (k ∷ ks) rest e = absurd (not_empty e)
 
@@ -283,7 +283,7 @@ blanks_before : (s : Bytes) (c e : Cursor) → Skipping s c e → (x : Significa
 blanks_before s c e h (Broken d) b = tt
 blanks_before s c e h (Ended d) b =
     subst (λ ks. IsBlank ks []) (sym (reads_characters s c h.reads))
-    (h.before (characters_at s e.at) [] (sym (append_nil (characters_at s e.at))) b)
+    (h.before (characters_at s e.at) [] (sym (append-nil (characters_at s e.at))) b)
 blanks_before s c e h (Found at k d) b =
     record {
       blanks = h.chars ++ b.blanks;

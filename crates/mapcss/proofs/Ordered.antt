@@ -3,7 +3,7 @@ use Prim.Native.Nat.{ℕ, suc, ◌+◌}
 use native.Mathlib.Omega.{arith}
 use mathlib.Core.Path.{◌≡◌, refl, sym, ap, ◌∙◌}
 use mathlib.Core.Bool.{Bool, true, false}
-use mathlib.Core.List.{List, [], ◌∷◌, ◌++◌, map, append_nil}
+use mathlib.Core.List.{List, [], ◌∷◌, ◌++◌, map, append-nil}
 use mathlib.Core.Option.{Option, none, some}
 use lib.Dec.{ltb}
 use lib.ListN.{length}
@@ -77,7 +77,7 @@ module _ (room : ℕ) (mp : Bool) (s : theory.Settings) (z : ℕ) (rs : List (Ru
   drawn_stream n es xs p =
       let j = joined ◌++◌ (stream_within room mp s z rs n 0 es.entities) (ended es.stopped) xs p in
       let e = ended_entries es.stopped j.1 j.3 in
-      within_stream n 0 es.entities j.0 j.2 ∙ ap entries (sym (j.4 ∙ (rw (e, append_nil))))
+      within_stream n 0 es.entities j.0 j.2 ∙ ap entries (sym (j.4 ∙ (rw (e, append-nil))))
 
   drawn_whole : (n : ℕ) (es : Stream) (xs : List Drawn) → stream_drawn room s z rs mp n es ≡ entries xs → es.stopped ≡ none
   drawn_whole n es xs p =

@@ -4,7 +4,7 @@ use native.Mathlib.Numerals.{add-one}
 use native.Mathlib.Omega.{arith}
 use mathlib.Core.Path.{◌≡◌, refl, sym, ◌∙◌, ap}
 use mathlib.Core.Bool.{Bool, true, false}
-use mathlib.Core.List.{List, [], ◌++◌, map, append_nil}
+use mathlib.Core.List.{List, [], ◌++◌, map, append-nil}
 use lib.Dec.{leb, ltb}
 use lib.Ieee.{Float}
 use lib.ListN.{length, length-append}
@@ -157,7 +157,7 @@ module _
       ≡ keys_of l (join ◌++◌ (entries xs) (left (length xs) place (stream_from (suc fuel) sort mp b at place)))
   unfolding turns gather_turn on-NextEntity stream_from stream_within join keys_of ended
   next_on d fuel at place xs rest h (BadNext r) p = rw (gather_turn, p)
-  next_on d fuel at place xs rest h NoMore p = rw (gather_turn, p, append_nil xs)
+  next_on d fuel at place xs rest h NoMore p = rw (gather_turn, p, append-nil xs)
   next_on d fuel at place xs rest h (Next e) p =
       let f = next_forward sort mp b at place e p in
       read_on d fuel at place xs e rest (omega arith) p (fit room (length xs) (one place e)) refl

@@ -2,7 +2,7 @@
 use Prim.Native.Nat.{ℕ}
 use mathlib.Core.Path.{◌≡◌, refl, sym, ◌∙◌, ap}
 use mathlib.Core.Bool.{Bool, true, false}
-use mathlib.Core.List.{List, [], ◌++◌, map, map-map, map-append, append_nil}
+use mathlib.Core.List.{List, [], ◌++◌, map, map-map, map-append, append-nil}
 use lib.ListN.{length, length-map}
 use lib.Seq.{take-append_seam, drop-append_seam}
 use Rattle.base.specs.Choice.{pick}
@@ -37,7 +37,7 @@ module _ (l : Bool) where
       → on-Gathered (keys_of l d) stopped (ordered 0) ≡ keys_of l (join (λ xs ys. sort (not_after l) xs) d (entries []))
   unfolding on-Gathered keys_of join
   nodes_sorted (declined r) = refl
-  nodes_sorted (entries xs) = ap gathered (ap (sort key_le) (append_nil (map (key_for l) xs)) ∙ keys_sort l xs)
+  nodes_sorted (entries xs) = ap gathered (ap (sort key_le) (append-nil (map (key_for l) xs)) ∙ keys_sort l xs)
 
   listed_is : (len : ℕ) (d : Drawing) → listed len (keys_of l d) ≡ written len d
   unfolding listed keys_of written

@@ -1,7 +1,7 @@
 -- Stores one after another, and a table filled row by row.
 use Prim.Native.Nat.{ℕ, zero, suc, ◌+◌, ◌-◌, ◌*◌, ◌≤◌, ◌<◌, min}
 use mathlib.Core.Path.{◌≡◌, refl, sym, ap, ◌∙◌}
-use mathlib.Core.List.{List, [], ◌∷◌, ◌++◌, map, append_assoc, append_nil}
+use mathlib.Core.List.{List, [], ◌∷◌, ◌++◌, map, append_assoc, append-nil}
 use native.Mathlib.Nat.{suc-mul}
 use native.Mathlib.Numerals.{add-one}
 use native.Mathlib.Omega.{arith}
@@ -174,7 +174,7 @@ module _ {A : Type 0} where
 
 module _ {A B : Type 0} (f : B → List A) where
   flat_snoc : (xs : List B) (x : B) → flat (map f (xs ++ (x ∷ []))) ≡ flat (map f xs) ++ f x
-  flat_snoc [] x = append_nil (f x)
+  flat_snoc [] x = append-nil (f x)
   flat_snoc (y ∷ xs) x =
       ap (λ (r : List A). f y ++ r) (flat_snoc xs x) ∙ sym (append_assoc (f y) (flat (map f xs)) (f x))
 

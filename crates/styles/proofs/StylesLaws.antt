@@ -4,7 +4,7 @@ use native.Mathlib.Omega.{arith}
 use native.Mathlib.Numerals.{add-one}
 use mathlib.Core.Path.{◌≡◌, refl, sym, ◌∙◌, ap, ap₂}
 use mathlib.Core.Bool.{Bool, true, false, not, cond}
-use mathlib.Core.List.{List, [], ◌∷◌, ◌++◌, map, append_nil}
+use mathlib.Core.List.{List, [], ◌∷◌, ◌++◌, map, append-nil}
 use mathlib.Core.Option.{none, some}
 use lib.Ieee.{Float, of_bits, of_int}
 use lib.Dec.{ltb}
@@ -151,7 +151,7 @@ module _ (p : ℕ → Bool) (f : ℕ → StyledLayer) where
 
   styled_left : (i : ℕ) → p i ≡ false → styled_of (i + 1) ≡ styled_of i
   unfolding keep
-  styled_left i e = styled_on i ∙ ap (λ b. styled_of i ++ map f (cond b (i ∷ []) [])) e ∙ append_nil (styled_of i)
+  styled_left i e = styled_on i ∙ ap (λ b. styled_of i ++ map f (cond b (i ∷ []) [])) e ∙ append-nil (styled_of i)
 
   styled_more : (i : ℕ) → p i ≡ true → styled_of (i + 1) ≡ styled_of i ++ (f i ∷ [])
   unfolding keep

@@ -4,7 +4,7 @@ use native.Mathlib.Nat.{mul-one}
 use native.Mathlib.Omega.{arith}
 use mathlib.Core.Path.{◌≡◌, refl, sym, ◌∙◌, ap, ap₂}
 use mathlib.Core.Bool.{Bool, true, false, ◌&&◌}
-use mathlib.Core.List.{[], ◌∷◌, ◌++◌, append_nil}
+use mathlib.Core.List.{[], ◌∷◌, ◌++◌, append-nil}
 use mathlib.Core.Option.{some}
 use lib.Dec.{T, eqb, leb, ltb}
 use lib.ListN.{length, length-append}
@@ -79,7 +79,7 @@ text_is x h = by-test (has_minus x) (λ s. rw (h, s)) (λ s. rw (h, s))
 pub digits_spell : (x : Float) → is_whole x ≡ true → Spells (digits_for x) (decimal (has_minus x) (size_of x) (pos 0))
 digits_spell x h =
     let n = size_of x in
-    let e = append_nil (natural_digits n) in
+    let e = append-nil (natural_digits n) in
     record {
       sign = sign_bytes (has_minus x);
       whole = natural_digits n;
