@@ -1,4 +1,6 @@
 // An answer's number and its five words, of a load six; words into a lent slice.
+#![tactic(auto)]
+
 ghost use Rattle.std.specs.Prelude.{◌≡◌};
 ghost use Rattle.base.specs.Table.{stored};
 ghost use Rattle.answer_words.specs.Words.{refused, counted, five_words, six_words};
@@ -7,7 +9,7 @@ use base::refusal::Refusal;
 use base::set_long;
 
 // 0 or the refusal's number, and five words.
-#[derive(Drop)]
+#[derive(Clone, Copy)]
 pub struct Five {
     pub kind: u64,
     pub a: u64,
@@ -18,7 +20,7 @@ pub struct Five {
 }
 
 // A load's answer: 0 or the refusal's number, and six words.
-#[derive(Drop)]
+#[derive(Clone, Copy)]
 pub struct Six {
     pub kind: u64,
     pub a: u64,

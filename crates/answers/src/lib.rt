@@ -1,4 +1,6 @@
 // What each answer is in numbers.
+#![tactic(auto)]
+
 ghost use Rattle.std.specs.Prelude.{◌≡◌};
 ghost use Rattle.answers.specs.Answers.{told_load, told_maps, told_styles, count_of, told_color, told_canvas, told_list};
 

@@ -1,4 +1,6 @@
 // The bundle: its layout and its UTF-8, the places of its texts, and the text of a name.
+#![tactic(auto)]
+
 ghost use Rattle.std.specs.Prelude.{◌≡◌, map};
 ghost use Rattle.base.specs.Map.{key_of, member};
 ghost use Rattle.group.specs.Pair.{entries_at, nth_of, pairs_at};
@@ -9,14 +11,14 @@ use base::refusal::Refusal;
 use group::{Number, Pair, Place};
 
 // What a check of a bundle answers: the refusal, or how many texts it holds.
-#[derive(Drop)]
+#[derive(Clone, Copy)]
 pub enum Checked {
     BadBundle(Refusal),
     Texts(usize),
 }
 
 // The text of a name: its number in the bundle and its range.
-#[derive(Drop)]
+#[derive(Clone, Copy)]
 pub enum FoundText {
     Missing,
     Text(usize, Range),

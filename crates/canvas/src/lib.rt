@@ -1,4 +1,6 @@
 // The canvas colour of a sheet, over lent tables.
+#![tactic(auto)]
+
 ghost use Rattle.std.specs.Prelude.{◌≡◌, List, ◌≤◌, ◌<◌, ◌-◌};
 ghost use Rattle.decode.specs.Decode.{places};
 ghost use Rattle.canvas.specs.Canvas.{shade_of, color_at, first_color, any_canvas, rule_color, rules_color, canvas_of};
@@ -10,7 +12,7 @@ use table::{PropertyValue, word_of};
 use valid::{Counts, is_sound};
 
 // The refusal, or the colour, if there is one.
-#[derive(Drop)]
+#[derive(Clone, Copy)]
 pub enum CanvasColor {
     NotJudged(Refusal),
     CanvasIs(NamedColor),

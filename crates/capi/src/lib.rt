@@ -20,6 +20,8 @@
 // mapcss_canvas_color: 1 if there is one, r, g, b, 0.
 // mapcss_style_entities, mapcss_style_areas: the number of entries, 0, 0, 0, 0. An entry is three words of the list: 1 for the stream of
 // multipolygons, else 0; the entity's place there; the layer's place among its styled layers.
+#![tactic(auto)]
+
 ghost use Rattle.std.specs.Prelude.{◌≡◌, false, length};
 ghost use Rattle.keep.specs.Encode.{lengths};
 ghost use Rattle.parser.specs.Load.{held, load_of};

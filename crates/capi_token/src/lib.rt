@@ -24,6 +24,8 @@
 //               an error: reason (1 to 12), line, character
 //
 // number[0] is the number of a Number, and 0.0 for everything else.
+#![tactic(auto)]
+
 ghost use Rattle.std.specs.Prelude.{◌≡◌};
 ghost use Rattle.base.specs.Table.{stored};
 ghost use Rattle.cursor.specs.Cursor.{cursor};
@@ -36,7 +38,7 @@ use token::{Step, next_token};
 use token_kind::{Token, ZoomLevel};
 
 // A token's kind, its four words, and its number.
-#[derive(Drop)]
+#[derive(Clone, Copy)]
 pub struct Payload {
     pub kind: u64,
     pub a: u64,
@@ -47,7 +49,7 @@ pub struct Payload {
 }
 
 // All that is told of a step.
-#[derive(Drop)]
+#[derive(Clone, Copy)]
 pub struct Told {
     pub end: Cursor,
     pub line: usize,

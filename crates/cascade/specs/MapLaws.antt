@@ -135,6 +135,7 @@ pub mem_member : (k : Bytes) (ks : List Bytes) → Memᴰ k ks → member k ks �
 unfolding member
 mem_member k (x ∷ ks) (Memᴰ.head e) = rw (e, same_refl x)
 mem_member k (x ∷ ks) (Memᴰ.tail m) = by-test (same k x) (λ p. rw p) (λ p. rw (p, mem_member k ks m))
+mem_member k [] x' = elim x' [ ]
 
 -- the last assignment, in words
 module _ {A : Type 0} where

@@ -85,6 +85,7 @@ module _ {A : Type 0} (z : ℕ) (e : Entity) where
       (λ q. rw (member, q) (layer_named c cs m v))))
       (λ w. rw w (layer_named c cs m v))
       (λ w. rw w (layer_named c cs m v))
+  layer_named c [] x'' v = elim x'' [ ]
 
 -- ---- demand 2
 

@@ -19,6 +19,7 @@ all_colored = next refl (next refl (next refl (next refl (next refl (next refl (
 colored_in : (es : List Named) → Colored es → (e : Named) → Memᴰ e es → color_named e.name ≡ Known e.color
 colored_in (d ∷ es) (next p ps) e (Memᴰ.head q) = rw q p
 colored_in (d ∷ es) (next p ps) e (Memᴰ.tail m) = colored_in es ps e m
+colored_in [] _ e x3 = elim x3 [ ]
 
 pub name_colored : (e : Named) → Memᴰ e named_colors → color_named e.name ≡ Known e.color
 name_colored e m = colored_in named_colors all_colored e m

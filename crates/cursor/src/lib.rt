@@ -1,4 +1,6 @@
 // The cursor of a text and what the tokenizer builds on: the next character, classes of characters, blanks, digits.
+#![tactic(auto)]
+
 ghost use Rattle.std.specs.Prelude.{◌≡◌, ◌&&◌, leb};
 ghost use Rattle.utf8.specs.Utf8.{char_at};
 ghost use Rattle.cursor.specs.Cursor.{start, bump, passed, next_char};
@@ -11,7 +13,7 @@ pub mod number;
 
 // The place behind what was read, the line and character of the last character read, and whether that ended a line.
 // specs/Position.antt has what line and character mean; proofs/Positions.antt proves it of every place that reading reaches.
-#[derive(Drop)]
+#[derive(Clone, Copy)]
 pub struct Cursor {
     pub at: usize,
     pub line: usize,
@@ -21,21 +23,21 @@ pub struct Cursor {
 
 // The end, with a character more, or a character and the place behind it.
 // Bytes that are no character count as the end: texts are checked to be UTF-8 before.
-#[derive(Drop)]
+#[derive(Clone, Copy)]
 pub enum Next {
     Done(Cursor),
     Got(u32, Cursor),
 }
 
 // What a character is as a digit.
-#[derive(Drop)]
+#[derive(Clone, Copy)]
 pub enum Digit {
     NoDigit,
     IsDigit(u8),
 }
 
 // A comment that does not end, no comment, or the place behind one.
-#[derive(Drop)]
+#[derive(Clone, Copy)]
 pub enum Comment {
     OpenComment(Cursor),
     NoComment,
@@ -43,7 +45,7 @@ pub enum Comment {
 }
 
 // An open comment, the end, or a character that is no blank: its place, itself, the place behind it.
-#[derive(Drop)]
+#[derive(Clone, Copy)]
 pub enum Significant {
     Broken(Cursor),
     Ended(Cursor),

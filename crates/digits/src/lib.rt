@@ -1,4 +1,6 @@
 // Whole numbers and their decimal digits.
+#![tactic(auto)]
+
 ghost use Rattle.std.specs.Prelude.{◌≡◌, true, not, T, drop, is_nan};
 ghost use Rattle.base.specs.Bytes.{same};
 ghost use Rattle.sheet.specs.Digits.{has_minus, unsigned_of, size_of, is_whole, natural_digits, digits_for};

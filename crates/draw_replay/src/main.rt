@@ -1,5 +1,7 @@
 // Replays stored drawing lists (differential/README.md has their form and how they were made) against the two exports that make
 // them. It prints the number of each case that differs, then the totals.
+#![tactic(auto)]
+
 ghost use Rattle.std.specs.Prelude.{◌≡◌, ◌+◌, ◌≤◌, ◌<◌, length};
 
 use capi::{mapcss_load, mapcss_style_areas, mapcss_style_entities};
@@ -30,7 +32,7 @@ fn case_buffer() -> [u8; 524288]
     [0; 524288]
 }
 
-#[derive(Drop)]
+#[derive(Clone, Copy)]
 struct Tally {
     run: u64,
     bad: u64,
@@ -50,7 +52,7 @@ fn run_all(s: &[u8]) -> Tally {
 }
 
 // Where the next case starts, and 1 for a mismatch.
-#[derive(Drop)]
+#[derive(Clone, Copy)]
 struct Turn {
     next: usize,
     bad: u64,

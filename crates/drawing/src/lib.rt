@@ -1,4 +1,6 @@
 // Drawing lists: the styled layers of all entities of a stream in drawing order, into a lent list of three words an entry.
+#![tactic(auto)]
+
 ghost use Rattle.std.specs.Prelude.{◌≡◌, length};
 ghost use Rattle.drawing.specs.Lists.{room_of, nodes_of, areas_of};
 
@@ -15,14 +17,14 @@ mod keys;
 mod list;
 
 // A refusal, or how many keys are gathered.
-#[derive(Drop)]
+#[derive(Clone, Copy)]
 pub enum Gathering {
     Stopped(Refusal),
     Now(usize),
 }
 
 // The refusal, or how many entries the list has.
-#[derive(Drop)]
+#[derive(Clone, Copy)]
 pub enum DrawList {
     NoList(Refusal),
     Listed(usize),

@@ -1,4 +1,6 @@
 // The entity: its layout and its UTF-8, alone and in a stream.
+#![tactic(auto)]
+
 ghost use Rattle.std.specs.Prelude.{◌≡◌, map, ◌-◌};
 ghost use Rattle.base.specs.Bytes.{within};
 ghost use Rattle.base.specs.Map.{key_of};
@@ -10,7 +12,7 @@ use base::refusal::Refusal;
 use group::{Number, Pair, Part, Place};
 
 // Which kinds a caller takes.
-#[derive(Drop)]
+#[derive(Clone, Copy)]
 pub enum Sort {
     Any,
     Nodes,
@@ -18,7 +20,7 @@ pub enum Sort {
 }
 
 // An entity's kind and id, and where its tags stand: `count` pairs from `tags` up to `end`.
-#[derive(Drop)]
+#[derive(Clone, Copy)]
 pub struct EntityRange {
     pub kind: u8,
     pub id: u64,
@@ -28,21 +30,21 @@ pub struct EntityRange {
 }
 
 // What stands at a place of a stream.
-#[derive(Drop)]
+#[derive(Clone, Copy)]
 pub enum EntityAt {
     NoEntity,
     Whole(EntityRange),
 }
 
 // A single entity, or the refusal.
-#[derive(Drop)]
+#[derive(Clone, Copy)]
 pub enum SingleEntity {
     BadEntity(Refusal),
     OneEntity(EntityRange),
 }
 
 // The next entity of a stream: the refusal, the end, or the entity.
-#[derive(Drop)]
+#[derive(Clone, Copy)]
 pub enum NextEntity {
     BadNext(Refusal),
     NoMore,

@@ -1,4 +1,6 @@
 // Storing the entries of a sheet's tables. docs/TABLES.md has every word.
+#![tactic(auto)]
+
 ghost use Rattle.std.specs.Prelude.{◌≡◌, [], ◌∷◌};
 ghost use Rattle.table.specs.Value.{word};
 ghost use Rattle.entries.specs.Put.{put_of};
@@ -10,14 +12,14 @@ use table::Name;
 use token_kind::ZoomLevel;
 
 // Whether there was room for an entry, and the count with it.
-#[derive(Drop)]
+#[derive(Clone, Copy)]
 pub enum Put {
     Full,
     Next(usize),
 }
 
 // The layer that a selector names, if it names one.
-#[derive(Drop)]
+#[derive(Clone, Copy)]
 pub enum LayerName {
     Unnamed,
     Named(Range),

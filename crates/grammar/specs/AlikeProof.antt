@@ -245,6 +245,8 @@ module _ {C T U P R : Type 0} (i : Input C T P R) (g : C → ℕ) (z : Store U) 
             (on_option b (refused (i.why (full e) (i.reached c)) υ) h)
         go none none both_full = both_refused s
         go (some φ) (some ψ) (both_take r) = k φ ψ r
+        go none (some ψ) x'' = elim x'' [ ]
+        go (some φ) none x3 = elim x3 [ ]
 
   -- ---- tests
 

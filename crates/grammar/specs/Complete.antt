@@ -12,7 +12,7 @@ use Rattle.base.proofs.Compare.{same_true, same_refl}
 use Rattle.sheet.specs.Sheet.{ObjectType, TextTest, NumericTest}
 use Rattle.grammar.specs.Token.{Name, Sign, Token, identifier, number, sign, left_brace, right_bracket, bang, colon, semi_colon, comma}
 use Rattle.grammar.specs.View.{is_sign, on_import, on_identifier, on_string, on_color_ref, on_number, on_zoom_range, on_color, color_of}
-use Rattle.grammar.specs.Reading.{Operand, Test, text, numeric, Value, Selector, Property, Rule, rule_item, Reading, Colors, define, colors_after, bare, id_to_object_type}
+use Rattle.grammar.specs.Reading.{Operand, Test, text, numeric, Value, Selector, Property, Rule, rule_item, Reading, Colors, define, colors_after, bare, with_zoom, with_test, with_layer, id_to_object_type}
 use Rattle.grammar.specs.Input.{Entry, rule_entry, selector_entry, color_entry, token, end, Input, Answer, read, on_next, on_option, after}
 use Rattle.grammar.specs.Reader.{to_binary_string_test_type, to_binary_numeric_test_type, width_increment, is_colors, plain_test, bang_test, read_test, read_number_list, tokens_to_semi_colon, read_simple_eval, read_property_value, read_properties, read_parts, read_selector, skip_colors, read_rule, before, parse, import_file, load}
 use Rattle.grammar.specs.Grammar.{IsName, single, double, IsKey, named, quoted_key, quoted_double, IsEquality, eq, ne, IsComparison, lt, le, gt, ge, IsOperand, plain_operand, digits_operand, IsTest, there, true_tag, false_tag, missing, untrue, compared, measured, IsNumbers, last_number, more_numbers, IsDelta, zero_delta, some_delta, IsValue, one_word, two_words, a_string, a_color, reference, list, eval, IsProperties, closed, assign, HasParts, nothing, zooms, tested, class, layer, typed, IsSkipped, stop, over, IsRule, body, auxiliary, last_selector, selector_then, finish, a_rule, defined, dropped, imported}
@@ -198,8 +198,8 @@ module _ {C T P R : Type 0} (i : Input C T P R) where
   numbers_done zero (last_number x) l g m = absurd (omega arith)
   numbers_done zero (more_numbers x n) l g m = absurd (omega arith)
   numbers_done (suc k) (last_number x) l (e ▸ f ▸ here) (m ◂ kept) = (x, (_, (_, (e, rw (m, f)))))
-  numbers_done (suc k) (more_numbers x n) l (e ▸ f ▸ g) (m ◂ ms) =
-      let h = numbers_done k n (omega arith) g ms in
+  numbers_done (suc k) (more_numbers {p = p} x n) l (e ▸ f ▸ g) (m ◂ ms) =
+      let h = numbers_done {p = p} k n (omega arith) g ms in
       (x, (_, (_, (e, rw (m, f, h.1.1.1.0, h.1.1.1.1)))))
 
   tokens_done :
@@ -212,7 +212,7 @@ module _ {C T P R : Type 0} (i : Input C T P R) where
   unfolding tokens_to_semi_colon on_next after is_sign
   tokens_done τ zero c l g e = absurd (omega arith)
   tokens_done τ (suc k) c l here e = rw e
-  tokens_done τ (suc k) c l (f ▸ g) e = rw (f, c.0, tokens_done τ k c.1 (omega arith) g e)
+  tokens_done τ (suc k) c l (◌▸◌ {p = p} f g) e = rw (f, c.0, tokens_done {p = p} τ k c.1 (omega arith) g e)
 
   value_done :
       {Γ : Colors} {p : List Token} {x : Value} {c d : C} {τ υ : T} (k : ℕ)
@@ -277,17 +277,17 @@ module _ {C T P R : Type 0} (i : Input C T P R) where
   parts_done zero b h l g e m = absurd (omega arith)
   parts_done (suc k) true nothing l here e m = rw (e, sole m)
   parts_done (suc k) false nothing l here e m = rw (e, sole m)
-  parts_done (suc k) b (zooms x y h) l (f ▸ g) e m = rw (f, parts_done k b h (omega arith) g e m)
-  parts_done {φ = φ} {τ = τ} {υ = υ} (suc k) b (tested {p = p} {q = q} {x = x} t h) l (f ▸ g) e m =
+  parts_done {σ = σ} (suc k) b (zooms x y h) l (f ▸ g) e m = rw (f, parts_done {σ = with_zoom σ x y} k b h (omega arith) g e m)
+  parts_done {σ = σ} {φ = φ} {τ = τ} {υ = υ} (suc k) b (tested {p = p} {q = q} {x = x} t h) l (f ▸ g) e m =
       let r = split i p g in
       let n =
       apart i (test_entries x)
       (subst
       (λ es. Puts i τ es υ)
       (append_assoc (test_entries x) (tests_entries (added h)) (selector_entry φ ∷ [])) m) in
-      rw (f, test_done t r.1.0 n.1.0, parts_done k b h (omega (arith, l, length-append p q)) r.1.1 e n.1.1)
-  parts_done (suc k) b (class a h) l (f ▸ z ▸ g) e m = rw (f, z, parts_done k b h (omega arith) g e m)
-  parts_done (suc k) b (layer a h) l (f ▸ z ▸ g) e m = rw (f, z, parts_done k b h (omega arith) g e m)
+      rw (f, test_done t r.1.0 n.1.0, parts_done {σ = with_test σ x} k b h (omega (arith, l, length-append p q)) r.1.1 e n.1.1)
+  parts_done {σ = σ} (suc k) b (class a h) l (f ▸ z ▸ g) e m = rw (f, z, parts_done {σ = σ} k b h (omega arith) g e m)
+  parts_done {σ = σ} (suc k) b (layer a h) l (f ▸ z ▸ g) e m = rw (f, z, parts_done {σ = with_layer σ a} k b h (omega arith) g e m)
 
   -- a selector's entries apart from those behind them
   selector_apart :
@@ -309,7 +309,7 @@ module _ {C T P R : Type 0} (i : Input C T P R) where
   skip_done τ zero stop l g = absurd (omega arith)
   skip_done τ zero (over t n h) l g = absurd (omega arith)
   skip_done τ (suc k) stop l (e ▸ here) = rw e
-  skip_done τ (suc k) (over t n h) l (e ▸ g) = rw (e, n, skip_done τ k h (omega arith) g)
+  skip_done τ (suc k) (over {p = p} t n h) l (e ▸ g) = rw (e, n, skip_done {p = p} τ k h (omega arith) g)
 
   -- what a rule begins with
   pub data Start : Token → Type 0 where

@@ -1,4 +1,6 @@
 // Group numbers, parts that stand behind their length, and runs of pairs of parts: what bundles and entities are made of.
+#![tactic(auto)]
+
 ghost use Rattle.std.specs.Prelude.{◌≡◌, ◌/◌, ◌≤◌};
 ghost use Rattle.group.specs.Number.{number_at, single, joined};
 ghost use Rattle.group.specs.Pair.{sized_of, part_at, pair_at, skip_of, pairs_at, nth_of, entries_at, all_utf8};
@@ -6,28 +8,28 @@ ghost use Rattle.group.specs.Pair.{sized_of, part_at, pair_at, skip_of, pairs_at
 use base::Range;
 
 // A group number and the place behind it.
-#[derive(Drop)]
+#[derive(Clone, Copy)]
 pub enum Number {
     Unread,
     Read(u64, usize),
 }
 
 // A part that stands behind its length.
-#[derive(Drop)]
+#[derive(Clone, Copy)]
 pub enum Part {
     Cut,
     Found(Range),
 }
 
 // Two parts, one behind the other.
-#[derive(Drop)]
+#[derive(Clone, Copy)]
 pub enum Pair {
     Broken,
     Two(Range, Range),
 }
 
 // A place, if there is one.
-#[derive(Drop)]
+#[derive(Clone, Copy)]
 pub enum Place {
     Nowhere,
     At(usize),

@@ -1,4 +1,6 @@
 // What the loader stores into: six lent tables with their counts.
+#![tactic(auto)]
+
 ghost use Rattle.std.specs.Prelude.{◌≡◌};
 ghost use Rattle.base.specs.Bytes.{same, within};
 ghost use Rattle.color.specs.Named.{rgb};
@@ -18,7 +20,7 @@ use token_kind::ZoomLevel;
 
 // How many entries each table holds, and the first of those that no entry has taken yet: a selector takes the tests since the
 // last one, a rule the selectors and properties, a test and a property the numbers.
-#[derive(Drop)]
+#[derive(Clone, Copy)]
 pub struct Tally {
     pub rules: usize,
     pub selectors: usize,
@@ -33,14 +35,14 @@ pub struct Tally {
 }
 
 // Whether a table had room for an entry, and the counts with it.
-#[derive(Drop)]
+#[derive(Clone, Copy)]
 pub enum Room {
     NoRoom,
     Stored(Tally),
 }
 
 // What reading and storing answers: the refusal, or the place reached and the counts.
-#[derive(Drop)]
+#[derive(Clone, Copy)]
 pub enum Kept {
     Refused(Refusal),
     Done(Cursor, Tally),

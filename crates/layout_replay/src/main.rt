@@ -1,5 +1,7 @@
 // Replays the cases that tests/layout_cases.py writes, which says what a case is. It prints the number of each case
 // whose answer differs, then the totals.
+#![tactic(auto)]
+
 ghost use Rattle.std.specs.Prelude.{◌≡◌, ◌+◌, ◌*◌, ◌≤◌, ◌<◌, length};
 
 use base::Range;
@@ -32,7 +34,7 @@ fn input_buffer() -> [u8; 1048640]
     [0; 1048640]
 }
 
-#[derive(Drop)]
+#[derive(Clone, Copy)]
 struct Tally {
     run: u64,
     bad: u64,
@@ -52,7 +54,7 @@ fn run_all(s: &[u8], input: &mut [u8]) -> Tally {
 }
 
 // Where the next case starts, and 1 for a mismatch.
-#[derive(Drop)]
+#[derive(Clone, Copy)]
 struct Turn {
     next: usize,
     bad: u64,

@@ -1,4 +1,6 @@
 // The lines: each is put into a lent buffer, as far as that has room, and the answer is how many bytes were put.
+#![tactic(auto)]
+
 ghost use Rattle.std.specs.Prelude.{◌≡◌, ◌+◌, ◌*◌, get_or};
 ghost use Rattle.decode.specs.Decode.{name_at};
 ghost use Rattle.sheet.specs.Digits.{natural_digits};

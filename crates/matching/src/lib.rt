@@ -1,4 +1,6 @@
 // Matching: whether a selector of the tables matches an entity.
+#![tactic(auto)]
+
 ghost use Rattle.std.specs.Prelude.{◌≡◌, ◌&&◌, map, ◌<◌, get_or};
 ghost use Rattle.std.proofs.Math.Option.{some};
 ghost use Rattle.base.specs.Table.{zero_float};
@@ -17,7 +19,7 @@ use reader::TagValue;
 use tag_number::TagNumber;
 
 // The answer to one selector or test; Out is a reached numeric test on a tag number outside the exact range.
-#[derive(Drop)]
+#[derive(Clone, Copy)]
 pub enum Fit {
     Out,
     Misses,

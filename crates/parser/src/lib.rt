@@ -1,4 +1,6 @@
 // The loader: parser.rs over lent tables, from any bytes to a sheet's six tables or a refusal.
+#![tactic(auto)]
+
 ghost use Rattle.std.specs.Prelude.{◌≡◌, length};
 ghost use Rattle.keep.specs.Encode.{lengths};
 ghost use Rattle.keep.specs.Lent.{lent};
@@ -13,7 +15,7 @@ use keep::Tally;
 use sheets::{Parsed, parse};
 
 // How many entries each table holds.
-#[derive(Drop)]
+#[derive(Clone, Copy)]
 pub struct Counts {
     pub rules: usize,
     pub selectors: usize,
@@ -24,7 +26,7 @@ pub struct Counts {
 }
 
 // What a load answers.
-#[derive(Drop)]
+#[derive(Clone, Copy)]
 pub enum Loaded {
     NotLoaded(Refusal),
     Sheet(Counts),

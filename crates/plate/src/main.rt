@@ -1,4 +1,6 @@
 // Reads a zoom, a bundle and an entity, and prints the layers of the entity's property maps, or `refused` with the five numbers.
+#![tactic(auto)]
+
 ghost use Rattle.std.specs.Prelude.{◌≡◌, length};
 
 use base::Range;

@@ -1,4 +1,6 @@
 // What the program plate prints: the property maps of an entity as lines, all but reading and writing.
+#![tactic(auto)]
+
 ghost use Rattle.std.specs.Prelude.{◌≡◌};
 ghost use Rattle.parser.specs.Load.{held, zeros, load_of};
 ghost use Rattle.walk.specs.Maps.{no_rows};
@@ -13,14 +15,14 @@ use valid::Counts;
 use walk::PropertyMaps;
 
 // A zoom, and where the bundle and the entity stand in the input.
-#[derive(Drop)]
+#[derive(Clone, Copy)]
 pub enum Frame {
     BadFrame,
     Framed(u8, Range, Range),
 }
 
 // The refusal, or where the bundle stands and how many layers there are.
-#[derive(Drop)]
+#[derive(Clone, Copy)]
 pub enum Plated {
     NoPlate(Refusal),
     Layers(Range, usize),

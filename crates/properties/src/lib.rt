@@ -1,4 +1,6 @@
 // Properties: each is stored at its semicolon, a listed number at once, a width delta just before its property.
+#![tactic(auto)]
+
 ghost use Rattle.grammar.specs.Reader.{joined_value, word_value, identifier_value, reference_value, numbers_value, read_property_value};
 ghost use Rattle.keep.specs.Lent.{colors_of};
 ghost use Rattle.keep.specs.Source.{reading};
@@ -25,7 +27,7 @@ use token_kind::Token;
 mod eval;
 
 // Behind a number of a list: its end, or the next number.
-#[derive(Drop)]
+#[derive(Clone, Copy)]
 pub enum Listed {
     Unlisted(Refusal),
     LastListed(Cursor),
@@ -33,7 +35,7 @@ pub enum Listed {
 }
 
 // The beginning of a property: the end of all, or a name.
-#[derive(Drop)]
+#[derive(Clone, Copy)]
 pub enum Head {
     NoHead(Refusal),
     LastHead(Cursor),
@@ -41,21 +43,21 @@ pub enum Head {
 }
 
 // How far the tokens of an eval have the one form that is read, and its number.
-#[derive(Drop)]
+#[derive(Clone, Copy)]
 pub struct Form {
     pub step: u8,
     pub number: f64,
 }
 
 // The tokens of an eval up to its semicolon.
-#[derive(Drop)]
+#[derive(Clone, Copy)]
 pub enum Formed {
     NoForm(Refusal),
     IsForm(Form, Cursor),
 }
 
 // The value of a property, the place behind it, and the counts.
-#[derive(Drop)]
+#[derive(Clone, Copy)]
 pub enum ValueRead {
     BadValue(Refusal),
     GoodValue(PropertyValue, Cursor, Tally),

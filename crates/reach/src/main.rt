@@ -1,6 +1,8 @@
 // Demand 3 on bytes (crates/mapcss/specs/Isolation.antt): two sheets and two open ways that differ outside the reach of layer `c`. Both
 // sheets have the same rules of `c` and `*` in the same order, those test no tag but `highway`, and both tags `layer` are read as 1.
 // The rules of `default` differ, one sheet has a layer `b` too, and ids and other tags differ.
+#![tactic(auto)]
+
 ghost use Rattle.std.specs.Prelude.{◌≤◌};
 
 use color::NamedColor;
@@ -17,7 +19,7 @@ type Table = [u32; 4096];
 type Maps = [u32; 4323];
 
 // What a sheet and an entity give.
-#[derive(Drop)]
+#[derive(Clone, Copy)]
 struct Given {
     loaded: bool,
     layers: u64,

@@ -1,4 +1,6 @@
 // Tag lookup: a tag's value by its key.
+#![tactic(auto)]
+
 ghost use Rattle.std.specs.Prelude.{◌≡◌, ◌∷◌, ◌++◌};
 ghost use Rattle.base.specs.Bytes.{same};
 ghost use Rattle.group.specs.Pair.{pairs_at};
@@ -8,7 +10,7 @@ use base::Range;
 use group::Pair;
 
 // The value of a tag, as a range.
-#[derive(Drop)]
+#[derive(Clone, Copy)]
 pub enum TagValue {
     Absent,
     Value(Range),

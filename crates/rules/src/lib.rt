@@ -1,4 +1,6 @@
 // Rules: a selector is stored at its comma or brace, a rule at its closing brace, a colors block too.
+#![tactic(auto)]
+
 ghost use Rattle.keep.specs.Lent.{colors_of};
 ghost use Rattle.rules.specs.Rules.{PartRead, AfterColon, AfterColons, SelectorKept, SelectorRead, NextRead, ChoiceRead, StartRead, WordStart, RuleKept, BodyRead, BlockRead, RuleRead};
 
@@ -17,7 +19,7 @@ use token_kind::{Token, ZoomLevel};
 mod kind;
 
 // A part of a selector: its end, and whether more selectors come; a zoom range; a test's bracket; a class; the layer's name.
-#[derive(Drop)]
+#[derive(Clone, Copy)]
 pub enum Part {
     BadPart(Refusal),
     Closing(bool, Cursor),
@@ -28,14 +30,14 @@ pub enum Part {
 }
 
 // A selector that was stored, and whether more come.
-#[derive(Drop)]
+#[derive(Clone, Copy)]
 pub enum Selected {
     NoSelector(Refusal),
     OneSelector(bool, Cursor, Tally),
 }
 
 // The last selector of a rule, or the start of the next: its first token, where that begins, and the place behind it.
-#[derive(Drop)]
+#[derive(Clone, Copy)]
 pub enum Choice {
     Unchosen(Refusal),
     LastChosen(Cursor, Tally),
@@ -43,7 +45,7 @@ pub enum Choice {
 }
 
 // What the first token of a selector begins: the properties, a colors block, or a selector of an object type.
-#[derive(Drop)]
+#[derive(Clone, Copy)]
 pub enum Start {
     BadStart(Refusal),
     Body,

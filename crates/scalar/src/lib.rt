@@ -1,9 +1,11 @@
 // Unicode scalar values, and their encoding in UTF-8.
+#![tactic(auto)]
+
 ghost use Rattle.std.specs.Prelude.{◌≡◌, ◌<◌};
 ghost use Rattle.scalar.specs.Scalar.{is_scalar, scalar_encoding, encoding_of};
 
 // The bytes of a character, then zeros, and how many they are.
-#[derive(Drop)]
+#[derive(Clone, Copy)]
 pub struct Encoding {
     pub bytes: [u8; 4],
     pub width: usize,

@@ -1,4 +1,6 @@
 // What exports are handed as numbers: counts, and settings.
+#![tactic(auto)]
+
 ghost use Rattle.std.specs.Prelude.{◌≡◌, get_or};
 ghost use Rattle.settings.specs.Settings.{counts_at, type_of, settings_of};
 

@@ -1,1 +1,3 @@
 // A sheet's rules as values: specs/Sheet.antt.
+
+#![tactic(auto)]

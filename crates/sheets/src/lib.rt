@@ -1,4 +1,6 @@
 // Sheets: colour definitions, rules and imports. A colour is stored at its semicolon.
+#![tactic(auto)]
+
 ghost use Rattle.keep.specs.Lent.{lent};
 ghost use Rattle.sheets.specs.Sheets.{DefinitionKept, DefinitionRead, StatementRead, SheetRead, ImportRead};
 
@@ -14,7 +16,7 @@ use token::Step;
 use token_kind::Token;
 
 // The beginning of a statement: the end of the text, an import, a colour definition, or the first token of a rule.
-#[derive(Drop)]
+#[derive(Clone, Copy)]
 pub enum Statement {
     BadStatement(Refusal),
     EndOfText,
@@ -24,7 +26,7 @@ pub enum Statement {
 }
 
 // What reading a whole text answers: the refusal, or the counts.
-#[derive(Drop)]
+#[derive(Clone, Copy)]
 pub enum Parsed {
     Stopped(Refusal),
     Ended(Tally),

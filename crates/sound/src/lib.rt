@@ -1,1 +1,3 @@
 // The tables that a load leaves are never refused with 22: specs/ states it, proofs/ proves it.
+
+#![tactic(auto)]

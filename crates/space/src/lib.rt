@@ -1,4 +1,6 @@
 // The characters of White_Space.
+#![tactic(auto)]
+
 ghost use Rattle.std.specs.Prelude.{◌≡◌};
 ghost use Rattle.space.specs.Space.{is_white_space, rising, wide_runs, general_runs};
 

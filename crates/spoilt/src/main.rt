@@ -1,4 +1,6 @@
 // A sheet through the exports, as it was loaded and with a word of its tables or a count spoilt: what each call answers.
+#![tactic(auto)]
+
 use base::word_at;
 use capi::{
     mapcss_canvas_color, mapcss_load, mapcss_property_maps, mapcss_style_areas,

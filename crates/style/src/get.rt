@@ -9,7 +9,7 @@ use color::NamedColor;
 use table::{Name, PropertyValue};
 
 // The value of a layer's property, if the layer has it.
-#[derive(Drop)]
+#[derive(Clone, Copy)]
 pub enum Property {
     Missing,
     Has(PropertyValue),

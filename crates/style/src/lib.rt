@@ -1,4 +1,6 @@
 // The style of a layer: property_map_to_style of styler.rs, over the numbers of the layer's properties.
+#![tactic(auto)]
+
 ghost use Rattle.std.specs.Prelude.{◌≡◌};
 ghost use Rattle.style.specs.Style.{default_z, casing_multiplier, base_width, width_or_zero, casing_only, full_casing, casing_width, multiplier_of, font_size, text_style_in, z_index_in, foreground_in, style_at};
 
@@ -11,13 +13,13 @@ use tag_number::LayerTag;
 
 pub mod get;
 
-#[derive(Drop)]
+#[derive(Clone, Copy)]
 pub enum StyleType {
     Josm,
     MapsMe,
 }
 
-#[derive(Drop)]
+#[derive(Clone, Copy)]
 pub enum LineCap {
     NoCap,
     Butt,
@@ -25,7 +27,7 @@ pub enum LineCap {
     Square,
 }
 
-#[derive(Drop)]
+#[derive(Clone, Copy)]
 pub enum TextPosition {
     NoPosition,
     Center,
@@ -33,28 +35,28 @@ pub enum TextPosition {
 }
 
 // Dashes are a range of the table of numbers.
-#[derive(Drop)]
+#[derive(Clone, Copy)]
 pub enum Dashes {
     NoDashes,
     Dashed(base::Range),
 }
 
 // A text is a name of the bundle.
-#[derive(Drop)]
+#[derive(Clone, Copy)]
 pub enum StyleText {
     NoText,
     Shown(Name),
 }
 
 // A number that may be absent: then its value is 0.
-#[derive(Drop)]
+#[derive(Clone, Copy)]
 pub struct Measure {
     pub present: bool,
     pub value: f64,
 }
 
 // The arguments of a style call besides tables, counts, bundle, zoom and entities.
-#[derive(Drop)]
+#[derive(Clone, Copy)]
 pub struct Settings {
     pub style_type: StyleType,
     pub has_font_multiplier: bool,
@@ -63,7 +65,7 @@ pub struct Settings {
 }
 
 // Without a text nothing else is there.
-#[derive(Drop)]
+#[derive(Clone, Copy)]
 pub struct TextStyle {
     pub text: StyleText,
     pub text_color: NamedColor,
@@ -72,7 +74,7 @@ pub struct TextStyle {
     pub font_size: f64,
 }
 
-#[derive(Drop)]
+#[derive(Clone, Copy)]
 pub struct Style {
     pub layer: LayerTag,
     pub z_index: f64,

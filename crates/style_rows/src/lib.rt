@@ -1,4 +1,6 @@
 // A styled layer in numbers, into lent tables of 32 rows.
+#![tactic(auto)]
+
 ghost use Rattle.std.specs.Prelude.{◌≡◌, [], ◌∷◌, map, ◌≤◌, min, pos, length, replicate, take};
 ghost use Rattle.base.specs.Table.{zero_float, padded, stored, flat};
 ghost use Rattle.style_rows.specs.Rows.{flag, cap_number, position_number, layer_number, has_layer, color_numbers, dash_numbers, text_numbers, scalars, row_words, row_floats, row_layer};

@@ -1,4 +1,6 @@
 // The styles of one entity: those of its layers in order, over lent tables and any bytes. `*` gets none.
+#![tactic(auto)]
+
 ghost use Rattle.std.specs.Prelude.{◌≡◌, ◌≤◌, length};
 ghost use Rattle.styles.specs.Styles.{blank_layer, no_styles, layer_styled, filled_layers, walked_styles, styles_of};
 
@@ -18,21 +20,21 @@ use walk::{PropertyMaps, walk_entity};
 pub mod parts;
 
 // A styled layer, named by the selector that first matched it.
-#[derive(Drop)]
+#[derive(Clone, Copy)]
 pub struct StyledLayer {
     pub selector: u32,
     pub style: Style,
 }
 
 // The refusal, or how many layers are styled.
-#[derive(Drop)]
+#[derive(Clone, Copy)]
 pub enum Styled {
     NoStyles(Refusal),
     Styles(usize),
 }
 
 // The answer, and the styled layers; behind them all is blank.
-#[derive(Drop)]
+#[derive(Clone, Copy)]
 pub struct EntityStyles {
     pub answer: Styled,
     pub layers: [StyledLayer; 32],

@@ -1,4 +1,6 @@
 // The tables of a sheet: words of their entries, and a property's value. docs/TABLES.md has every word.
+#![tactic(auto)]
+
 ghost use Rattle.std.specs.Prelude.{◌≡◌, ◌%◌, ◌<◌};
 ghost use Rattle.color.specs.Named.{rgb};
 ghost use Rattle.table.specs.Value.{word_at, range_at, value_at};
@@ -9,14 +11,14 @@ use base::Range;
 use color::Color;
 
 // A name of the bundle: a range, or two ranges with a colon between them.
-#[derive(Drop)]
+#[derive(Clone, Copy)]
 pub enum Name {
     Plain(Range),
     Joined(Range, Range),
 }
 
 // The value of a property. Numbers is a range of the table of numbers.
-#[derive(Drop)]
+#[derive(Clone, Copy)]
 pub enum PropertyValue {
     NoValue,
     Identifier(Name),

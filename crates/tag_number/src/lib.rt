@@ -1,4 +1,6 @@
 // The numbers that a tag's value spells.
+#![tactic(auto)]
+
 ghost use Rattle.std.specs.Prelude.{◌≡◌, map, ◌-◌, ◌<◌, ◌^◌, pos, neg_ℤ, ◌-ℤ◌, true, length};
 ghost use Rattle.std.proofs.Math.Option.{some};
 ghost use Rattle.std.specs.Float.{inf};
@@ -10,7 +12,7 @@ ghost use Rattle.tag_number.specs.Grown.{grown, grown_from, whole_text, written_
 use base::Range;
 
 // What a tag's value reads as, where a number is asked for.
-#[derive(Drop)]
+#[derive(Clone, Copy)]
 pub enum TagNumber {
     Malformed,
     OutOfRange,
@@ -18,14 +20,14 @@ pub enum TagNumber {
 }
 
 // The tag `layer`.
-#[derive(Drop)]
+#[derive(Clone, Copy)]
 pub enum LayerTag {
     NoLayer,
     Layer(i64),
 }
 
 // The exponent that a number is written with: whether it is negative, and its size, which stops growing far out of range.
-#[derive(Drop)]
+#[derive(Clone, Copy)]
 pub enum Power {
     NoPower,
     Power10(bool, u64),

@@ -1,4 +1,6 @@
 // Tests: each is stored at its bracket, a number just before its test.
+#![tactic(auto)]
+
 ghost use Rattle.std.specs.Prelude.{◌≡◌};
 ghost use Rattle.grammar.specs.Reader.{question_test, bang_question_test, plain_test, bang_test, read_key, read_bang_test, read_test};
 ghost use Rattle.input.specs.Source.{spot};

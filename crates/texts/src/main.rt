@@ -1,4 +1,6 @@
 // An example: reads a bundle and prints each text's name and length, or `refused` with the five numbers.
+#![tactic(auto)]
+
 use base::refusal::Refusal;
 use bundle::Checked;
 use group::Pair;

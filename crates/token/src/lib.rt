@@ -1,4 +1,6 @@
 // Tokens: one step of the tokenizer at a place of a text.
+#![tactic(auto)]
+
 ghost use Rattle.std.specs.Prelude.{◌≡◌};
 ghost use Rattle.token.specs.Step.{step_of};
 
@@ -12,7 +14,7 @@ mod read;
 
 // An error with its reason, line and character; the end, with the place reached; or a token, the line and character
 // that it begins at, and the place behind it.
-#[derive(Drop)]
+#[derive(Clone, Copy)]
 pub enum Step {
     Wrong(usize, usize, usize),
     End(Cursor),
@@ -20,14 +22,14 @@ pub enum Step {
 }
 
 // A string without its closing quote, or its inside.
-#[derive(Drop)]
+#[derive(Clone, Copy)]
 pub enum Quoted {
     Unclosed(Cursor),
     Inside(Range, Cursor),
 }
 
 // No sign of two letters, or one and the place behind it.
-#[derive(Drop)]
+#[derive(Clone, Copy)]
 pub enum PairRead {
     NoPair,
     Pair(Token, Cursor),

@@ -1,4 +1,6 @@
 // The tokens, and the signs among them.
+#![tactic(auto)]
+
 ghost use Rattle.std.specs.Prelude.{◌≡◌};
 ghost use Rattle.token_kind.specs.Reason.{lexer_error};
 
@@ -9,14 +11,14 @@ use cursor::Cursor;
 pub mod signs;
 
 // An end of a zoom range.
-#[derive(Drop)]
+#[derive(Clone, Copy)]
 pub enum ZoomLevel {
     NoLevel,
     Level(u8),
 }
 
 // A token. Ranges are places of the text; Text is the Rust's String.
-#[derive(Drop)]
+#[derive(Clone, Copy)]
 pub enum Token {
     Import(Range),
     Identifier(Range),
@@ -47,14 +49,14 @@ pub enum Token {
 }
 
 // What a reader of one kind of token answers: the Rust's Result<Token>, and the place behind the token.
-#[derive(Drop)]
+#[derive(Clone, Copy)]
 pub enum Reading {
     Failed(usize, usize, usize),
     Ready(Token, Cursor),
 }
 
 // A sign by its characters.
-#[derive(Drop)]
+#[derive(Clone, Copy)]
 pub enum Sign {
     NoSign,
     IsSign(Token),

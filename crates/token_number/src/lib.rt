@@ -1,4 +1,6 @@
 // Numbers.
+#![tactic(auto)]
+
 ghost use Rattle.std.specs.Prelude.{◌≡◌};
 ghost use Rattle.token_number.specs.Number.{read_number, read_signed, read_unsigned, first_digit, finish_number, is_bare_dot};
 

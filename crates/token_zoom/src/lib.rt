@@ -1,4 +1,6 @@
 // Colours and zoom ranges.
+#![tactic(auto)]
+
 ghost use Rattle.std.specs.Prelude.{◌≡◌};
 ghost use Rattle.token_zoom.specs.Zoom.{read_color, read_hex_digits, hex_added, six_digits, three_digits, read_zoom_range, read_levels, zoom_range, ranged, is_no_level, read_hyphen, read_zoom_level, read_digit};
 
@@ -8,27 +10,27 @@ use cursor::{Cursor, Digit, Next, bump, to_digit};
 use token_kind::{Reading, Token, ZoomLevel, lexer_error};
 
 // No digit, or its value and the place behind it.
-#[derive(Drop)]
+#[derive(Clone, Copy)]
 pub enum DigitRead {
     NoneRead,
     OneRead(u8, Cursor),
 }
 
 // The hexadecimal digits so far: how many, and the last of them as a number.
-#[derive(Drop)]
+#[derive(Clone, Copy)]
 pub struct Hex {
     pub count: usize,
     pub value: u32,
     pub end: Cursor,
 }
 
-#[derive(Drop)]
+#[derive(Clone, Copy)]
 pub struct LevelRead {
     pub level: ZoomLevel,
     pub end: Cursor,
 }
 
-#[derive(Drop)]
+#[derive(Clone, Copy)]
 pub struct Hyphen {
     pub had: bool,
     pub end: Cursor,

@@ -433,6 +433,7 @@ encoded_row s k w row
     (Memᴰ.tail
     (Memᴰ.tail
     (Memᴰ.tail (Memᴰ.tail (Memᴰ.tail (Memᴰ.tail (Memᴰ.tail (Memᴰ.head r)))))))))
+    encoded_row s k w row (Memᴰ.tail (Memᴰ.tail (Memᴰ.tail (Memᴰ.tail (Memᴰ.tail (Memᴰ.tail (Memᴰ.tail (Memᴰ.tail (Memᴰ.tail x39))))))))) e q g = elim x39 [ ]
     e q g =
     of_4 s k w (span 0xF4 0xF4) (span 0x80 0x8F) (omega arith) (omega arith) (omega arith) (omega arith)
     (λ a b n al ah bl bh h v. (omega arith, omega arith))

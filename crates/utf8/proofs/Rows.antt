@@ -146,6 +146,7 @@ row_width r
     (Memᴰ.tail
     (Memᴰ.tail
     (Memᴰ.tail (Memᴰ.tail (Memᴰ.tail (Memᴰ.tail (Memᴰ.tail (Memᴰ.head e)))))))))
+    row_width r (Memᴰ.tail (Memᴰ.tail (Memᴰ.tail (Memᴰ.tail (Memᴰ.tail (Memᴰ.tail (Memᴰ.tail (Memᴰ.tail (Memᴰ.tail x36))))))))) = elim x36 [ ]
     =
     rw e (omega arith, omega arith)
 

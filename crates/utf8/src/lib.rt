@@ -1,11 +1,13 @@
 // UTF-8: the character at a place, and the test of a whole slice.
+#![tactic(auto)]
+
 ghost use Rattle.std.specs.Prelude.{◌≡◌, [], ◌∷◌, ◌&&◌, ◌+◌, ◌*◌, ◌%◌, leb};
 ghost use Rattle.utf8.specs.Utf8.{span, tail, fits, decode_of, char_at, is_utf8};
 
 use base::byte_at;
 
 // What stands at a place: no character, the end, or a character with its width in bytes.
-#[derive(Drop)]
+#[derive(Clone, Copy)]
 pub enum Char {
     Bad,
     End,

@@ -1,4 +1,6 @@
 // Decodes every scalar value from its encoding. It prints how many there are, and how many are found again.
+#![tactic(auto)]
+
 ghost use Rattle.std.specs.Prelude.{◌≤◌};
 
 use libc::STDOUT_FILENO;
@@ -17,7 +19,7 @@ fn line(name: &[u8], n: u64) {
     io::write_all(STDOUT_FILENO, b"\n");
 }
 
-#[derive(Drop)]
+#[derive(Clone, Copy)]
 struct Tally {
     values: u64,
     found: u64,

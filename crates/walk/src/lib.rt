@@ -1,4 +1,6 @@
 // The walk of one entity through a sheet: its property maps, over lent tables and any bytes.
+#![tactic(auto)]
+
 ghost use Rattle.std.specs.Prelude.{◌≡◌, ◌≤◌, ◌<◌, ◌-◌, length};
 ghost use Rattle.decode.specs.Decode.{name_at, places};
 ghost use Rattle.walk.specs.Maps.{finish, walk_of, maps_of, few, layer_place};
@@ -16,14 +18,14 @@ pub mod names;
 mod rows;
 
 // A refusal's number, or the count of layers.
-#[derive(Drop)]
+#[derive(Clone, Copy)]
 pub enum Stepped {
     Refused(usize),
     Now(usize),
 }
 
 // The refusal, or how many layers there are.
-#[derive(Drop)]
+#[derive(Clone, Copy)]
 pub enum PropertyMaps {
     NoMaps(Refusal),
     Maps(usize),
