@@ -261,7 +261,7 @@ module _ {C T P R : Type 0} (i : Input C T P R) where
         f,
         value_done k v (omega (arith, l, length-append p q)) r.1.0 n.1.0,
         o.1.0,
-        properties_done k d (omega (arith, l, length-append p q)) r.1.1 o.1.1,
+        properties_done {p = q} k d (omega (arith, l, length-append p q)) r.1.1 o.1.1,
       )
 
   -- ---- selectors

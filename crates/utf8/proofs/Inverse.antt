@@ -433,11 +433,11 @@ encoded_row s k w row
     (Memᴰ.tail
     (Memᴰ.tail
     (Memᴰ.tail (Memᴰ.tail (Memᴰ.tail (Memᴰ.tail (Memᴰ.tail (Memᴰ.head r)))))))))
-    encoded_row s k w row (Memᴰ.tail (Memᴰ.tail (Memᴰ.tail (Memᴰ.tail (Memᴰ.tail (Memᴰ.tail (Memᴰ.tail (Memᴰ.tail (Memᴰ.tail x39))))))))) e q g = elim x39 [ ]
     e q g =
     of_4 s k w (span 0xF4 0xF4) (span 0x80 0x8F) (omega arith) (omega arith) (omega arith) (omega arith)
     (λ a b n al ah bl bh h v. (omega arith, omega arith))
     (rw r at e) (rw r at q) (rw r at g)
+encoded_row s k w row (Memᴰ.tail (Memᴰ.tail (Memᴰ.tail (Memᴰ.tail (Memᴰ.tail (Memᴰ.tail (Memᴰ.tail (Memᴰ.tail (Memᴰ.tail x39))))))))) e q g = elim x39 [ ]
 
 pub encode_decode : (s : Bytes) (k w : ℕ) → char_of s ≡ Code k w → Encoded s k w
 encode_decode s k w e = let o = char_row s k w e in encoded_row s k w o.row o.listed o.fitting o.width o.bits

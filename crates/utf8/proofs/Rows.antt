@@ -146,9 +146,9 @@ row_width r
     (Memᴰ.tail
     (Memᴰ.tail
     (Memᴰ.tail (Memᴰ.tail (Memᴰ.tail (Memᴰ.tail (Memᴰ.tail (Memᴰ.head e)))))))))
-    row_width r (Memᴰ.tail (Memᴰ.tail (Memᴰ.tail (Memᴰ.tail (Memᴰ.tail (Memᴰ.tail (Memᴰ.tail (Memᴰ.tail (Memᴰ.tail x36))))))))) = elim x36 [ ]
     =
     rw e (omega arith, omega arith)
+row_width r (Memᴰ.tail (Memᴰ.tail (Memᴰ.tail (Memᴰ.tail (Memᴰ.tail (Memᴰ.tail (Memᴰ.tail (Memᴰ.tail (Memᴰ.tail x36))))))))) = elim x36 [ ]
 
 -- a character has one to four bytes, and they lie within the text
 pub char_within : (s : Bytes) (at k w : ℕ) → char_at s at ≡ Code k w → (1 ≤ w) × (w ≤ 4) × (at + w ≤ length s)
