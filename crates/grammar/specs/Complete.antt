@@ -369,7 +369,7 @@ module _ {C T P R : Type 0} (i : Input C T P R) where
       let r = split i p g in
       let c = uncons i r.1.1 in
       let o = selector_apart y σ (selectors_entries ss (properties_entries ps ++ (rule_entry ∷ []))) h m in
-      let f = rule_done k d (omega (arith, l, length-append p (sign comma ∷ q))) c.1.1.1 o.1.1 in (
+      let f = rule_done {p = q} k d (omega (arith, l, length-append p (sign comma ∷ q))) c.1.1.1 o.1.1 in (
         _,
         (
           _,

@@ -6,8 +6,8 @@ use Rattle.group.proofs.long_part.Goals as goal
 
 pub returns-in-Unread : goal.returns-in-Unread
 unfolding part_at
-returns-in-Unread c = Number-Unread _ _ _ (via c.number_at.ensures c.enum_told-1.given.1) refl
+returns-in-Unread c = Number-Unread _ _ _ (via c.number_at.ensures c.in-Unread.is) refl
 
 pub returns-in-Read : goal.returns-in-Read
 unfolding part_at
-returns-in-Read c = Number-Read _ _ _ (via c.number_at.ensures c.n-1.given.1) (c.sized.ensures)
+returns-in-Read c = Number-Read _ _ _ (via c.number_at.ensures c.in-Read.is) (c.sized.ensures)

@@ -7,7 +7,7 @@ pub returns-then-count-k : goal.returns-then-count-k
 returns-then-count-k c = nth_past c.args.count c.args.s.now c.args.at c.args.k c.if-count-k.true
 
 pub returns-in-Nowhere : goal.returns-in-Nowhere
-returns-in-Nowhere c = nth_nowhere c.args.count c.args.s.now c.args.at c.args.k (via c.skip_pairs.ensures c.enum_told-1.given.1)
+returns-in-Nowhere c = nth_nowhere c.args.count c.args.s.now c.args.at c.args.k (via c.skip_pairs.ensures c.in-Nowhere.is)
 
 pub returns-in-At : goal.returns-in-At
-returns-in-At c = c.pair_at.ensures ∙ nth_at c.args.count c.args.s.now c.args.at c.args.k _ c.if-count-k.false (via c.skip_pairs.ensures c.place-1.given.1)
+returns-in-At c = c.pair_at.ensures ∙ nth_at c.args.count c.args.s.now c.args.at c.args.k _ c.if-count-k.false (via c.skip_pairs.ensures c.in-At.is)

@@ -6,12 +6,12 @@ use Rattle.group.proofs.pair_at.Goals as goal
 
 pub returns-in-Cut : goal.returns-in-Cut
 unfolding pair_at
-returns-in-Cut c = Part-Cut _ _ _ (via c.part_at.ensures c.enum_told-1.given.1) refl
+returns-in-Cut c = Part-Cut _ _ _ (via c.part_at.ensures c.in-Cut.is) refl
 
 pub returns-in-Cut-part_at : goal.returns-in-Cut-part_at
 unfolding pair_at
-returns-in-Cut-part_at c = Part-Found _ _ _ (via c.part_at.ensures c.a-1.given.1) (Part-Cut _ _ _ (via c.part_at-in-Found.ensures c.enum_told-in-Cut-part_at-1.given.1) refl)
+returns-in-Cut-part_at c = Part-Found _ _ _ (via c.part_at.ensures c.in-Found.is) (Part-Cut _ _ _ (via c.part_at-in-Found.ensures c.in-Cut-part_at.is) refl)
 
 pub returns-in-Found-part_at : goal.returns-in-Found-part_at
 unfolding pair_at
-returns-in-Found-part_at c = Part-Found _ _ _ (via c.part_at.ensures c.a-1.given.1) (Part-Found _ _ _ (via c.part_at-in-Found.ensures c.b-1.given.1) refl)
+returns-in-Found-part_at c = Part-Found _ _ _ (via c.part_at.ensures c.in-Found.is) (Part-Found _ _ _ (via c.part_at-in-Found.ensures c.in-Found-part_at.is) refl)

@@ -1,0 +1,53 @@
+use Prim.Native.Nat.{◌+◌, ◌/◌}
+use native.Mathlib.Omega.{arith}
+use mathlib.Core.Path.{◌∙◌}
+use Rattle.base.specs.Choice.{via}
+use Rattle.group.proofs.Numbers.{number_end, number_single, number_small, number_stop, number_more, number_most}
+use Rattle.group.proofs.+number_at.Goals as goal
+
+pub returns-then-s-at : goal.returns-then-s-at
+returns-then-s-at t c = number_end c.args.s.now c.args.at c.args.most
+    c.if-s-at.true
+
+pub returns-then-b-lt128 : goal.returns-then-b-lt128
+returns-then-b-lt128 t c = c.last_byte.ensures
+    ∙ number_single c.args.s.now
+    c.args.at
+    c.args.most c.if-s-at.false
+    c.if-b-lt128.true
+
+pub returns-then-most-lt128 : goal.returns-then-most-lt128
+returns-then-most-lt128 t c = number_small c.args.s.now
+    c.args.at
+    c.args.most c.if-s-at.false
+    c.if-b-lt128.false c.if-most-lt128.true
+
+pub number_at-requires : goal.number_at-requires
+number_at-requires t c = (omega (arith, c.decreases), tt)
+
+pub first_byte-requires : goal.first_byte-requires
+first_byte-requires t c = number_most
+    c.args.s.now
+    (c.args.at + 1)
+    (c.args.most / 128) _ _
+    (via c.number_at.ensures c.in-Read.is)
+
+pub returns-in-Unread : goal.returns-in-Unread
+returns-in-Unread t c = number_stop
+    c.args.s.now
+    c.args.at
+    c.args.most
+    c.if-s-at.false
+    c.if-b-lt128.false c.number_at.result
+    c.number_at.ensures c.in-Unread.is
+
+pub returns-in-Read : goal.returns-in-Read
+returns-in-Read t c = c.first_byte.ensures
+    ∙ number_more
+    c.args.s.now
+    c.args.at
+    c.args.most
+    c.if-s-at.false
+    c.if-b-lt128.false
+    c.number_at.result _ _
+    c.number_at.ensures c.in-Read.is
