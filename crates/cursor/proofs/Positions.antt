@@ -137,16 +137,21 @@ onto_on : (s : Bytes) {ks js : List ℕ} {at to : ℕ} → Onto s ks at js to �
 onto_on s stay = omega arith
 onto_on s (step {at = at} k w q o) = let h = onto_on s o in omega arith
 
-onto_one : (s : Bytes) {ks js ms : List ℕ} {at to : ℕ} → Onto s ks at js to → Onto s ks at ms to → js ≡ ms
-onto_one s stay stay = refl
-onto_one s {at = at} stay (step k w q o) = let h = onto_on s o in let l = char_within s at k w q in absurd (omega arith)
-onto_one s {at = at} (step k w q o) stay = let h = onto_on s o in let l = char_within s at k w q in absurd (omega arith)
-onto_one s {ks = ks} {at = at} {to = to} (step {js = js} k w q o) (step {js = ms} j v p u) =
+onto_one :
+    (s : Bytes) {ks js ms : List ℕ} {at to end : ℕ}
+    → Onto s ks at js to
+    → Onto s ks at ms end
+    → to ≡ end
+    → js ≡ ms
+onto_one s stay stay r = refl
+onto_one s {at = at} stay (step k w q o) r = let h = onto_on s o in let l = char_within s at k w q in absurd (omega arith)
+onto_one s {at = at} (step k w q o) stay r = let h = onto_on s o in let l = char_within s at k w q in absurd (omega arith)
+onto_one s {ks = ks} {at = at} {to = to} (step {js = js} k w q o) (step {js = ms} j v p u) r =
     let e : Code k w ≡ Code j v = sym q ∙ p in
     let a : k ≡ j = cc in
     let b : w ≡ v = cc in
-    onto_one s o (rw (a, b) u)
+    onto_one s o (rw (a, b) u) r
 
 -- a place has its characters before it in one way only
 pub text_one : (s : Bytes) {ks js : List ℕ} {at : ℕ} → Text s ks at → Text s js at → ks ≡ js
-text_one s t u = onto_one s (text_onto s t) (text_onto s u)
+text_one s t u = onto_one s (text_onto s t) (text_onto s u) refl

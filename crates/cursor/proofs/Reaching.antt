@@ -94,7 +94,7 @@ module _ {s : Bytes} {c : Cursor} where
   reach_within p (over {d = d} {e = e} r q) = let h = reach_within p r in let l = end_stays s d e q in omega arith
 
   -- reading on from a place that was reached
-  pub reach_more : {n : ℕ} {d e : Cursor} → Reach s c 0 d → Reach s d n e → Reach s c n e
+  pub reach_more : {d : Cursor} {n : ℕ} {e : Cursor} → Reach s c 0 d → Reach s d n e → Reach s c n e
   reach_more a here = a
   reach_more a (on r q) = on (reach_more a r) q
   reach_more a (over r q) = over (reach_more a r) q

@@ -1,0 +1,12 @@
+use mathlib.Core.Path.{refl}
+use Rattle.base.specs.Choice.{if_false, if_true}
+use Rattle.cursor.specs.Number.{sign}
+use Rattle.cursor.proofs.number.sign.Goals as goal
+
+pub returns-then-minus : goal.returns-then-minus
+unfolding sign
+returns-then-minus c = if_true _ _ _ c.if-minus.true refl
+
+pub returns : goal.returns
+unfolding sign
+returns c = if_false _ _ _ c.if-minus.false refl

@@ -1,0 +1,27 @@
+use mathlib.Core.Path.{refl, ap}
+use borrow.Author.Tests.{le-leb, lt-leb, lt-ltb, le-ltb}
+use Rattle.base.specs.Choice.{via, if_true, if_false}
+use Rattle.entity.specs.Elim.{EntityAt-NoEntity, EntityAt-Whole}
+use Rattle.entity.specs.Layout.{next_of, tags_of}
+use Rattle.entity.specs.declared.NextEntity.TheVariants.{BadNext}
+use Rattle.entity.proofs.next_entity.Goals as goal
+
+pub returns-then-s-gt1048576 : goal.returns-then-s-gt1048576
+unfolding next_of tags_of
+returns-then-s-gt1048576 c = if_true _ _ _ (lt-ltb _ _ c.if-s-gt1048576.true) (ap BadNext c.of_entity.ensures)
+
+pub returns-then-s-at : goal.returns-then-s-at
+unfolding next_of tags_of
+returns-then-s-at c = if_false _ _ _ (le-ltb _ _ c.if-s-gt1048576.false) (if_true _ _ _ (le-leb _ _ c.if-s-at.true) refl)
+
+pub returns-then-pairs_utf8 : goal.returns-then-pairs_utf8
+unfolding next_of tags_of
+returns-then-pairs_utf8 c = if_false _ _ _ (le-ltb _ _ c.if-s-gt1048576.false) (if_false _ _ _ (lt-leb _ _ c.if-s-at.false) (EntityAt-Whole _ _ _ (via c.entity_at.ensures c.in-Whole.is) (if_true _ _ _ (via c.pairs_utf8.ensures c.if-pairs_utf8.true) refl)))
+
+pub returns-in-NoEntity : goal.returns-in-NoEntity
+unfolding next_of tags_of
+returns-in-NoEntity c = if_false _ _ _ (le-ltb _ _ c.if-s-gt1048576.false) (if_false _ _ _ (lt-leb _ _ c.if-s-at.false) (EntityAt-NoEntity _ _ _ (via c.entity_at.ensures c.in-NoEntity.is) (ap BadNext c.of_entity-in-NoEntity.ensures)))
+
+pub returns-else-pairs_utf8 : goal.returns-else-pairs_utf8
+unfolding next_of tags_of
+returns-else-pairs_utf8 c = if_false _ _ _ (le-ltb _ _ c.if-s-gt1048576.false) (if_false _ _ _ (lt-leb _ _ c.if-s-at.false) (EntityAt-Whole _ _ _ (via c.entity_at.ensures c.in-Whole.is) (if_false _ _ _ (via c.pairs_utf8.ensures c.if-pairs_utf8.false) (ap BadNext c.of_entity-in-Whole.ensures))))
