@@ -1,7 +1,7 @@
 -- A loop of the code against `turns`: what is left of the loop gives what the whole gives.
-use Prim.Native.Nat.{ℕ, zero, suc, ◌<◌, ◌≤◌}
+use Prim.Native.Nat.{ℕ, zero, suc, ◌<◌}
 use native.Mathlib.Omega.{arith}
-use mathlib.Core.Path.{◌≡◌, refl, sym, ◌∙◌, ap}
+use mathlib.Core.Path.{◌≡◌, refl}
 use Rattle.base.specs.Turns.{Turn, more, done, after, turns}
 
 pub record Going {S R : Type 0} (f : S → Turn S R) (d : R) (left : ℕ) (x : S) (out : R) : Type 0 where

@@ -1,11 +1,11 @@
 -- The laws of a lent table, over any element type and any stride.
 use mathlib.Core.Path.{◌≡◌, refl, sym, ap, ◌∙◌}
 use mathlib.Core.List.{List, [], ◌∷◌, ◌++◌, append_assoc, append-nil}
-use Prim.Native.Nat.{ℕ, zero, suc, ◌+◌, ◌-◌, ◌*◌, ◌/◌, min, ◌≤◌, ◌<◌}
+use Prim.Native.Nat.{ℕ, zero, suc, ◌+◌, ◌-◌, ◌*◌, ◌/◌, ◌≤◌, ◌<◌}
 use native.Mathlib.Nat.{sub_self, add-zero, sub-zero}
 use native.Mathlib.Numerals.{add-one}
 use native.Mathlib.Omega.{arith}
-use lib.ListN.{get_or, drop_of_length-le, length, replicate, set, take, drop, length-append, length-replicate, length-set}
+use lib.ListN.{get_or, drop_of_length-le, length, replicate, set, drop, length-append, length-replicate, length-set}
 use lib.Seq.{set_at, drop-cons}
 use Rattle.base.specs.Table.{padded, stored, flat, capacity_of}
 

@@ -1,5 +1,5 @@
 -- Ordered maps by names: the texts of a bundle, the tags of an entity, layers and property maps are all such maps.
-use Rattle.std.specs.Prelude.{Bool, true, false, cond, ◌||◌, List, [], ◌∷◌}
+use Rattle.std.specs.Prelude.{Bool, false, cond, ◌||◌, List, [], ◌∷◌}
 use Rattle.std.proofs.Math.Option.{Option, none, some}
 use Rattle.base.specs.Bytes.{Bytes, same}
 

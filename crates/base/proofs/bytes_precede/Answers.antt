@@ -1,4 +1,3 @@
-use Prim.Native.Nat.{◌-◌}
 use native.Mathlib.Omega.{arith}
 use mathlib.Core.Path.{sym, ◌∙◌}
 use Rattle.base.proofs.Compare.{precedes_less, precedes_more, precedes_next, precedes_none, precedes_short}

@@ -1,0 +1,25 @@
+use mathlib.Core.Path.{refl}
+use borrow.Author.Tests.{not-true, not-false}
+use Rattle.base.specs.Choice.{via, if_true, if_false}
+use Rattle.valid.specs.Valid.{selector_sound}
+use Rattle.std.proofs.Common.{ap}
+use mathlib.Core.Bool.{not}
+use Rattle.valid.proofs.selector_sound.Goals as goal
+
+pub returns-then-not-kind_at : goal.returns-then-not-kind_at
+unfolding selector_sound
+returns-then-not-kind_at c = if_false _ _ _ (via c.kind_at.ensures (not-true _ (ap not c.if-not-kind_at.true))) refl
+
+pub returns-then-not-span_at : goal.returns-then-not-span_at
+unfolding selector_sound
+returns-then-not-span_at c = if_true _ _ _
+    (via c.kind_at.ensures (not-false _ (ap not c.if-not-kind_at.false)))
+    (if_false _ _ _ (via c.span_at.ensures (not-true _ (ap not c.if-not-span_at.true))) refl)
+
+pub returns : goal.returns
+unfolding selector_sound
+returns c = if_true _ _ _
+    (via c.kind_at.ensures (not-false _ (ap not c.if-not-kind_at.false)))
+    (if_true _ _ _
+    (via c.span_at.ensures (not-false _ (ap not c.if-not-span_at.false)))
+    c.marked_span.ensures)
