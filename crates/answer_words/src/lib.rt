@@ -7,7 +7,7 @@ use base::refusal::Refusal;
 use base::set_long;
 
 // 0 or the refusal's number, and five words.
-#[derive(Drop)]
+#[derive(Clone, Copy)]
 pub struct Five {
     pub kind: u64,
     pub a: u64,
@@ -18,7 +18,7 @@ pub struct Five {
 }
 
 // A load's answer: 0 or the refusal's number, and six words.
-#[derive(Drop)]
+#[derive(Clone, Copy)]
 pub struct Six {
     pub kind: u64,
     pub a: u64,

@@ -6,7 +6,7 @@ ghost use Rattle.base.specs.Table.{zero_float, capacity_of};
 pub mod refusal;
 
 // The places `from` to `to`, the last one left out, of a slice that stands beside it.
-#[derive(Drop)]
+#[derive(Clone, Copy)]
 pub struct Range {
     pub from: usize,
     pub to: usize,

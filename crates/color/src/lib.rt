@@ -4,14 +4,14 @@ ghost use Rattle.color.specs.Named.{color_named, known};
 
 use base::same_bytes;
 
-#[derive(Drop)]
+#[derive(Clone, Copy)]
 pub struct Color {
     pub r: u8,
     pub g: u8,
     pub b: u8,
 }
 
-#[derive(Drop)]
+#[derive(Clone, Copy)]
 pub enum NamedColor {
     Unknown,
     Known(Color),

@@ -11,7 +11,7 @@ pub mod number;
 
 // The place behind what was read, the line and character of the last character read, and whether that ended a line.
 // specs/Position.antt has what line and character mean; proofs/Positions.antt proves it of every place that reading reaches.
-#[derive(Drop)]
+#[derive(Clone, Copy)]
 pub struct Cursor {
     pub at: usize,
     pub line: usize,

@@ -6,7 +6,7 @@ use crate::{Cursor, Digit, Next, bump, to_digit};
 
 // The digits before the dot and after it so far, how many stand after it, and whether it was read:
 // number, number_after_dot, digits_after_dot and had_dot of the Rust.
-#[derive(Drop)]
+#[derive(Clone, Copy)]
 pub struct Sum {
     pub whole: f64,
     pub fraction: f64,

@@ -10,7 +10,7 @@ use base::refusal::Refusal;
 use group::{Number, Pair, Part, Place};
 
 // Which kinds a caller takes.
-#[derive(Drop)]
+#[derive(Clone, Copy)]
 pub enum Sort {
     Any,
     Nodes,
@@ -18,7 +18,7 @@ pub enum Sort {
 }
 
 // An entity's kind and id, and where its tags stand: `count` pairs from `tags` up to `end`.
-#[derive(Drop)]
+#[derive(Clone, Copy)]
 pub struct EntityRange {
     pub kind: u8,
     pub id: u64,

@@ -17,7 +17,7 @@ pub enum Put {
 }
 
 // The layer that a selector names, if it names one.
-#[derive(Drop)]
+#[derive(Clone, Copy)]
 pub enum LayerName {
     Unnamed,
     Named(Range),

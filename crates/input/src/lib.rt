@@ -8,7 +8,7 @@ use token_kind::Token;
 pub mod tokens;
 
 // The text that is read: its number in the bundle, and where it stands there.
-#[derive(Drop)]
+#[derive(Clone, Copy)]
 pub struct Source {
     pub number: usize,
     pub range: Range,

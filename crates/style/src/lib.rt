@@ -11,13 +11,13 @@ use tag_number::LayerTag;
 
 pub mod get;
 
-#[derive(Drop)]
+#[derive(Clone, Copy)]
 pub enum StyleType {
     Josm,
     MapsMe,
 }
 
-#[derive(Drop)]
+#[derive(Clone, Copy)]
 pub enum LineCap {
     NoCap,
     Butt,
@@ -25,7 +25,7 @@ pub enum LineCap {
     Square,
 }
 
-#[derive(Drop)]
+#[derive(Clone, Copy)]
 pub enum TextPosition {
     NoPosition,
     Center,
@@ -33,28 +33,28 @@ pub enum TextPosition {
 }
 
 // Dashes are a range of the table of numbers.
-#[derive(Drop)]
+#[derive(Clone, Copy)]
 pub enum Dashes {
     NoDashes,
     Dashed(base::Range),
 }
 
 // A text is a name of the bundle.
-#[derive(Drop)]
+#[derive(Clone, Copy)]
 pub enum StyleText {
     NoText,
     Shown(Name),
 }
 
 // A number that may be absent: then its value is 0.
-#[derive(Drop)]
+#[derive(Clone, Copy)]
 pub struct Measure {
     pub present: bool,
     pub value: f64,
 }
 
 // The arguments of a style call besides tables, counts, bundle, zoom and entities.
-#[derive(Drop)]
+#[derive(Clone, Copy)]
 pub struct Settings {
     pub style_type: StyleType,
     pub has_font_multiplier: bool,
@@ -63,7 +63,7 @@ pub struct Settings {
 }
 
 // Without a text nothing else is there.
-#[derive(Drop)]
+#[derive(Clone, Copy)]
 pub struct TextStyle {
     pub text: StyleText,
     pub text_color: NamedColor,
@@ -72,7 +72,7 @@ pub struct TextStyle {
     pub font_size: f64,
 }
 
-#[derive(Drop)]
+#[derive(Clone, Copy)]
 pub struct Style {
     pub layer: LayerTag,
     pub z_index: f64,

@@ -18,14 +18,14 @@ use walk::{PropertyMaps, walk_entity};
 pub mod parts;
 
 // A styled layer, named by the selector that first matched it.
-#[derive(Drop)]
+#[derive(Clone, Copy)]
 pub struct StyledLayer {
     pub selector: u32,
     pub style: Style,
 }
 
 // The refusal, or how many layers are styled.
-#[derive(Drop)]
+#[derive(Clone, Copy)]
 pub enum Styled {
     NoStyles(Refusal),
     Styles(usize),

@@ -9,7 +9,7 @@ use base::Range;
 use color::Color;
 
 // A name of the bundle: a range, or two ranges with a colon between them.
-#[derive(Drop)]
+#[derive(Clone, Copy)]
 pub enum Name {
     Plain(Range),
     Joined(Range, Range),

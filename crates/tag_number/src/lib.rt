@@ -18,7 +18,7 @@ pub enum TagNumber {
 }
 
 // The tag `layer`.
-#[derive(Drop)]
+#[derive(Clone, Copy)]
 pub enum LayerTag {
     NoLayer,
     Layer(i64),

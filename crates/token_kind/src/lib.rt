@@ -9,7 +9,7 @@ use cursor::Cursor;
 pub mod signs;
 
 // An end of a zoom range.
-#[derive(Drop)]
+#[derive(Clone, Copy)]
 pub enum ZoomLevel {
     NoLevel,
     Level(u8),

@@ -6,7 +6,7 @@ ghost use Rattle.base.specs.Choice.{pick};
 ghost use Rattle.base.specs.Table.{capacity_of};
 
 // How many entries each table holds. No styling reads the table of colours.
-#[derive(Drop)]
+#[derive(Clone, Copy)]
 pub struct Counts {
     pub rules: usize,
     pub selectors: usize,
