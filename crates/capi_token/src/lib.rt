@@ -36,7 +36,7 @@ use token::{Step, next_token};
 use token_kind::{Token, ZoomLevel};
 
 // A token's kind, its four words, and its number.
-#[derive(Drop)]
+#[derive(Clone, Copy)]
 pub struct Payload {
     pub kind: u64,
     pub a: u64,
@@ -47,7 +47,7 @@ pub struct Payload {
 }
 
 // All that is told of a step.
-#[derive(Drop)]
+#[derive(Clone, Copy)]
 pub struct Told {
     pub end: Cursor,
     pub line: usize,
