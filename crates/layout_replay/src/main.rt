@@ -9,22 +9,23 @@ use base::refusal::Refusal;
 use bundle::{Checked, FoundText};
 use entity::{EntityRange, NextEntity, SingleEntity, Sort};
 use group::{Number, Pair, Part};
-use libc::{STDIN_FILENO, STDOUT_FILENO};
+use std::io;
+use std::io::Write;
 
-fn main() {
-    let mut cases = io::large_buffer();
-    let n = io::read_full(STDIN_FILENO, &mut cases);
+fn main(rt: HostRuntime) -> io::Result<()> {
+    let mut cases = stdio::large_buffer();
+    let n = stdio::read_full(&mut rt.stdin(), &mut cases)?;
     let mut input = input_buffer();
-    let t = run_all(&cases[..n], &mut input);
-    line(b"cases", t.run);
-    line(b"mismatches", t.bad);
+    let mut out = rt.stdout();
+    let t = run_all(&mut out, &cases[..n], &mut input)?;
+    line(&mut out, b"cases", t.run)?;
+    line(&mut out, b"mismatches", t.bad)
 }
 
-fn line(name: &[u8], n: u64) {
-    io::write_all(STDOUT_FILENO, name);
-    io::write_all(STDOUT_FILENO, b" ");
-    io::print_decimal(STDOUT_FILENO, n);
-    io::write_all(STDOUT_FILENO, b"\n");
+fn line<W: Write>(out: &mut W, name: &[u8], n: u64) -> io::Result<()>
+    ensures { OnOk result (Appends (W.contents out.old) (W.contents out.new) (name.now ++ (32 ∷ (decimal n ++ (10 ∷ []))))) }
+{
+    stdio::line(out, name, n)
 }
 
 // Room for the longest input.
@@ -40,17 +41,17 @@ struct Tally {
     bad: u64,
 }
 
-fn run_all(s: &[u8], input: &mut [u8]) -> Tally {
+fn run_all<W: Write>(out: &mut W, s: &[u8], input: &mut [u8]) -> io::Result<Tally> {
     let mut at: usize = 0;
     let mut run: u64 = 0;
     let mut bad: u64 = 0;
     while at < s.len() {
-        let t = turn_at(s, at, run, input);
+        let t = turn_at(out, s, at, run, input)?;
         at = t.next;
         bad += t.bad;
         run += 1;
     }
-    Tally { run, bad }
+    Ok(Tally { run, bad })
 }
 
 // Where the next case starts, and 1 for a mismatch.
@@ -61,27 +62,33 @@ struct Turn {
 }
 
 // One case, with what it prints.
-fn turn_at(s: &[u8], at: usize, run: u64, input: &mut [u8]) -> Turn
+fn turn_at<W: Write>(
+    out: &mut W,
+    s: &[u8],
+    at: usize,
+    run: u64,
+    input: &mut [u8],
+) -> io::Result<Turn>
     requires { at < length s.now }
-    ensures { (at < result.next) × (result.next ≤ length s.now) × (result.bad ≤ 1) }
+    ensures { IfOk result (λ t. (at < t.next) × (t.next ≤ length s.now) × (t.bad ≤ 1)) }
 {
     let prefix = at + 3;
     let fill = prefix + short_at(s, at + 1);
     let words = fill + 6;
     if s.len() < words {
-        line(b"broken case", run);
-        return Turn {
+        line(out, b"broken case", run)?;
+        return Ok(Turn {
             next: s.len(),
             bad: 1,
-        };
+        });
     }
     let end = words + 4 * wide(base::byte_at(s, fill + 5));
     if s.len() < end {
-        line(b"broken case", run);
-        return Turn {
+        line(out, b"broken case", run)?;
+        return Ok(Turn {
             next: s.len(),
             bad: 1,
-        };
+        });
     }
     let n = fill_input(
         input,
@@ -94,10 +101,10 @@ fn turn_at(s: &[u8], at: usize, run: u64, input: &mut [u8]) -> Turn
         base::part(input, Range { from: 0, to: n }),
         &s[words..end],
     ) {
-        return Turn { next: end, bad: 0 };
+        return Ok(Turn { next: end, bad: 0 });
     }
-    line(b"mismatch in case", run);
-    Turn { next: end, bad: 1 }
+    line(out, b"mismatch in case", run)?;
+    Ok(Turn { next: end, bad: 1 })
 }
 
 fn wide(b: u8) -> usize
@@ -128,16 +135,17 @@ fn short_at_2(s: &[u8], at: usize) -> usize
     wide(base::byte_at(s, at + 2)) + 256 * wide(base::byte_at(s, at + 3))
 }
 
-// The input of a case: its prefix, then the fill byte so many times. Answers its length.
+// The input of a case: its prefix, then the fill byte so many times, as far as there is room. Answers its length.
 fn fill_input(input: &mut [u8], prefix: &[u8], fill: u8, count: usize) -> usize
     requires { count ≤ 4294967295 }
 {
+    let n = prefix.len() + count;
     let mut i: usize = 0;
-    while i < input.len() {
+    while i < n && i < input.len() {
         input[i] = input_byte(prefix, fill, i);
         i += 1;
     }
-    prefix.len() + count
+    n
 }
 
 fn input_byte(prefix: &[u8], fill: u8, i: usize) -> u8 {

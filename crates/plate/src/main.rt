@@ -4,14 +4,15 @@
 ghost use Rattle.std.specs.Prelude.{◌≡◌, length};
 
 use base::Range;
-use libc::{STDIN_FILENO, STDOUT_FILENO};
 use line::{layer_line, property_count, property_line, refusal_line};
 use printing::Plated;
+use std::io;
+use std::io::Write;
 
-fn main() {
+fn main(rt: HostRuntime) -> io::Result<()> {
     let mut input = input_buffer();
-    let n = io::read_full(STDIN_FILENO, &mut input);
-    print_plate(&input[..n]);
+    let n = stdio::read_full(&mut rt.stdin(), &mut input)?;
+    print_plate(&mut rt.stdout(), &input[..n])
 }
 
 // One byte more than an input may have, so that a longer one is seen.
@@ -28,7 +29,7 @@ fn line_buffer() -> [u8; 60064]
     [0; 60064]
 }
 
-fn print_plate(input: &[u8]) {
+fn print_plate<W: Write>(out: &mut W, input: &[u8]) -> io::Result<()> {
     let mut rules = [0u32; 4096];
     let mut selectors = [0u32; 4096];
     let mut tests = [0u32; 4096];
@@ -49,49 +50,60 @@ fn print_plate(input: &[u8]) {
     ) {
         Plated::NoPlate(e) => {
             let n = refusal_line(e, &mut line);
-            print_line(&line, n);
+            print_line(out, &line, n)
         }
         Plated::Layers(b, k) => {
             print_layers(
+                out,
                 base::part(input, b),
                 &selectors,
                 &properties,
                 &maps,
                 k,
                 &mut line,
-            );
+            )
         }
     }
 }
 
-fn print_layers(
+fn print_layers<W: Write>(
+    out: &mut W,
     bundle: &[u8],
     selectors: &[u32; 4096],
     properties: &[u32; 4096],
     maps: &[u32; 4323],
     k: usize,
     line: &mut [u8],
-) {
+) -> io::Result<()> {
     let mut i: usize = 0;
     while i < k {
         let n = layer_line(bundle, &selectors[..], &maps[..], i, line);
-        print_line(&line[..], n);
-        print_properties(bundle, &properties[..], &maps[..], i, line);
+        print_line(out, &line[..], n)?;
+        print_properties(out, bundle, &properties[..], &maps[..], i, line)?;
         i += 1;
     }
+    Ok(())
 }
 
-fn print_properties(bundle: &[u8], properties: &[u32], maps: &[u32], i: usize, line: &mut [u8]) {
+fn print_properties<W: Write>(
+    out: &mut W,
+    bundle: &[u8],
+    properties: &[u32],
+    maps: &[u32],
+    i: usize,
+    line: &mut [u8],
+) -> io::Result<()> {
     let count = property_count(maps, i) as usize;
     let mut j: usize = 0;
     while j < count {
         let n = property_line(bundle, properties, maps, i, j, line);
-        print_line(&line[..], n);
+        print_line(out, &line[..], n)?;
         j += 1;
     }
+    Ok(())
 }
 
 // The first n bytes.
-fn print_line(line: &[u8], n: usize) {
-    io::write_all(STDOUT_FILENO, base::part(line, Range { from: 0, to: n }));
+fn print_line<W: Write>(out: &mut W, line: &[u8], n: usize) -> io::Result<()> {
+    out.write_all(base::part(line, Range { from: 0, to: n }))
 }

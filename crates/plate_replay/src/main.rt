@@ -5,25 +5,26 @@
 ghost use Rattle.std.specs.Prelude.{◌≡◌, ◌+◌, ◌≤◌, ◌<◌, length};
 
 use base::refusal::Refusal;
-use libc::{STDIN_FILENO, STDOUT_FILENO};
 use printing::Plated;
+use std::io;
+use std::io::Write;
 
 // No place of an output.
 const NOWHERE: usize = 18446744073709551615;
 
-fn main() {
+fn main(rt: HostRuntime) -> io::Result<()> {
     let mut cases = case_buffer();
-    let n = io::read_full(STDIN_FILENO, &mut cases);
-    let t = run_all(&cases[..n]);
-    line(b"cases", t.run);
-    line(b"mismatches", t.bad);
+    let n = stdio::read_full(&mut rt.stdin(), &mut cases)?;
+    let mut out = rt.stdout();
+    let t = run_all(&mut out, &cases[..n])?;
+    line(&mut out, b"cases", t.run)?;
+    line(&mut out, b"mismatches", t.bad)
 }
 
-fn line(name: &[u8], n: u64) {
-    io::write_all(STDOUT_FILENO, name);
-    io::write_all(STDOUT_FILENO, b" ");
-    io::print_decimal(STDOUT_FILENO, n);
-    io::write_all(STDOUT_FILENO, b"\n");
+fn line<W: Write>(out: &mut W, name: &[u8], n: u64) -> io::Result<()>
+    ensures { OnOk result (Appends (W.contents out.old) (W.contents out.new) (name.now ++ (32 ∷ (decimal n ++ (10 ∷ []))))) }
+{
+    stdio::line(out, name, n)
 }
 
 // Room for all cases.
@@ -39,17 +40,17 @@ struct Tally {
     bad: u64,
 }
 
-fn run_all(s: &[u8]) -> Tally {
+fn run_all<W: Write>(out: &mut W, s: &[u8]) -> io::Result<Tally> {
     let mut at: usize = 0;
     let mut run: u64 = 0;
     let mut bad: u64 = 0;
     while at < s.len() {
-        let t = turn_at(s, at, run);
+        let t = turn_at(out, s, at, run)?;
         at = t.next;
         bad += t.bad;
         run += 1;
     }
-    Tally { run, bad }
+    Ok(Tally { run, bad })
 }
 
 // Where the next case starts, and 1 for a mismatch.
@@ -59,35 +60,35 @@ struct Turn {
     bad: u64,
 }
 
-fn turn_at(s: &[u8], at: usize, run: u64) -> Turn
+fn turn_at<W: Write>(out: &mut W, s: &[u8], at: usize, run: u64) -> io::Result<Turn>
     requires { at < length s.now }
-    ensures { (at < result.next) × (result.next ≤ length s.now) × (result.bad ≤ 1) }
+    ensures { IfOk result (λ t. (at < t.next) × (t.next ≤ length s.now) × (t.bad ≤ 1)) }
 {
     let input = at + 2;
     let size = input + short_at(s, at);
     if s.len() < size {
-        return broken(s, run);
+        return broken(out, s, run);
     }
     let output = size + 2;
     let end = output + short_at(s, size);
     if s.len() < end {
-        return broken(s, run);
+        return broken(out, s, run);
     }
     if agrees(&s[input..size], &s[output..end]) {
-        return Turn { next: end, bad: 0 };
+        return Ok(Turn { next: end, bad: 0 });
     }
-    line(b"mismatch in case", run);
-    Turn { next: end, bad: 1 }
+    line(out, b"mismatch in case", run)?;
+    Ok(Turn { next: end, bad: 1 })
 }
 
-fn broken(s: &[u8], run: u64) -> Turn
-    ensures { (result.next ≡ length s.now) × (result.bad ≡ 1) }
+fn broken<W: Write>(out: &mut W, s: &[u8], run: u64) -> io::Result<Turn>
+    ensures { IfOk result (λ t. (t.next ≡ length s.now) × (t.bad ≡ 1)) }
 {
-    line(b"broken case", run);
-    Turn {
+    line(out, b"broken case", run)?;
+    Ok(Turn {
         next: s.len(),
         bad: 1,
-    }
+    })
 }
 
 // Whether plate prints this output. What is lent holds something else before.

@@ -6,8 +6,9 @@
 ghost use Rattle.std.specs.Prelude.{◌≤◌};
 
 use color::NamedColor;
-use libc::STDOUT_FILENO;
 use parser::Loaded;
+use std::io;
+use std::io::Write;
 use table::PropertyValue;
 use valid::Counts;
 
@@ -29,7 +30,7 @@ struct Given {
     default_style: Words,
 }
 
-fn main() {
+fn main(rt: HostRuntime) -> io::Result<()> {
     let a = ask(
         b"\x01\x01sjway::*{width:1;} way[highway=path]::c{color:#ff0000;casing-width:eval(prop(\"width\")+1);} way{opacity:0.5;}",
         b"\x01\x07\x02\x07highway\x04path\x05layer\x011",
@@ -38,23 +39,24 @@ fn main() {
         b"\x01\x01s\x93\x01way{opacity:0.25;} way::*{width:1;} way::b,way[highway=path]::c{color:#ff0000;casing-width:eval(prop(\"width\")+1);} way[lit=yes]{width:9;z-index:2;}",
         b"\x01\xac\x02\x04\x07highway\x04path\x05layer\x03+01\x03lit\x03yes\x04name\x01x",
     );
-    line(b"loaded", flag(a.loaded) + flag(b.loaded));
-    line(b"layers", a.layers);
-    line(b"layers", b.layers);
-    line(b"c alike", alike(&a.c, &b.c));
-    line(b"c style alike", alike(&a.c_style, &b.c_style));
-    line(b"default alike", alike(&a.default, &b.default));
+    let mut out = rt.stdout();
+    line(&mut out, b"loaded", flag(a.loaded) + flag(b.loaded))?;
+    line(&mut out, b"layers", a.layers)?;
+    line(&mut out, b"layers", b.layers)?;
+    line(&mut out, b"c alike", alike(&a.c, &b.c))?;
+    line(&mut out, b"c style alike", alike(&a.c_style, &b.c_style))?;
+    line(&mut out, b"default alike", alike(&a.default, &b.default))?;
     line(
+        &mut out,
         b"default style alike",
         alike(&a.default_style, &b.default_style),
-    );
+    )
 }
 
-fn line(name: &[u8], n: u64) {
-    io::write_all(STDOUT_FILENO, name);
-    io::write_all(STDOUT_FILENO, b" ");
-    io::print_decimal(STDOUT_FILENO, n);
-    io::write_all(STDOUT_FILENO, b"\n");
+fn line<W: Write>(out: &mut W, name: &[u8], n: u64) -> io::Result<()>
+    ensures { OnOk result (Appends (W.contents out.old) (W.contents out.new) (name.now ++ (32 ∷ (decimal n ++ (10 ∷ []))))) }
+{
+    stdio::line(out, name, n)
 }
 
 fn flag(b: bool) -> u64
@@ -101,9 +103,9 @@ fn ask(bundle: &[u8], entity: &[u8]) -> Given {
     };
     let all = styles::entity_styles(bundle, &r, &s, &t, &p, &x, n, 13, settings, entity);
     let c = properties_of(bundle, &s, &p, &x, &m, b"c");
-    let c_style = style_of(bundle, &s, all, b"c");
+    let c_style = style_of(bundle, &s, &all, b"c");
     let default = properties_of(bundle, &s, &p, &x, &m, b"default");
-    let default_style = style_of(bundle, &s, all, b"default");
+    let default_style = style_of(bundle, &s, &all, b"default");
     Given {
         loaded: 0 < n.rules,
         layers: k as u64,
@@ -209,7 +211,7 @@ fn put_layer(out: &mut Words, n: usize, tag: tag_number::LayerTag) -> usize {
 }
 
 // The style of the layer of this name.
-fn style_of(bundle: &[u8], s: &Table, all: styles::EntityStyles, name: &[u8]) -> Words {
+fn style_of(bundle: &[u8], s: &Table, all: &styles::EntityStyles, name: &[u8]) -> Words {
     let mut out = [0u64; 128];
     let layers = all.layers;
     let answer = all.answer;

@@ -6,11 +6,12 @@ use capi::{
     mapcss_canvas_color, mapcss_load, mapcss_property_maps, mapcss_style_areas,
     mapcss_style_entities, mapcss_styles,
 };
-use libc::STDOUT_FILENO;
+use std::io;
+use std::io::Write;
 
 type Table = [u32; 32];
 
-fn main() {
+fn main(rt: HostRuntime) -> io::Result<()> {
     let sheet = b"\x01\x01s\x35canvas{fill-color:#102030;} way|z13-{width:2;} {a:b;}";
     let mut r = [0u32; 32];
     let mut s = [0u32; 32];
@@ -22,30 +23,31 @@ fn main() {
     let loaded = mapcss_load(
         sheet, &mut r, &mut s, &mut t, &mut p, &mut x, &mut q, &mut n,
     );
-    line(b"load", loaded);
-    line(b"rules", n[0]);
-    line(b"zoom", 12);
-    ask(sheet, &r, &s, &t, &p, &x, &n, 12);
-    line(b"zoom", 13);
-    ask(sheet, &r, &s, &t, &p, &x, &n, 13);
+    let mut to = rt.stdout();
+    line(&mut to, b"load", loaded)?;
+    line(&mut to, b"rules", n[0])?;
+    line(&mut to, b"zoom", 12)?;
+    ask(&mut to, sheet, &r, &s, &t, &p, &x, &n, 12)?;
+    line(&mut to, b"zoom", 13)?;
+    ask(&mut to, sheet, &r, &s, &t, &p, &x, &n, 13)?;
     r[0] = 0;
-    line(b"kind of the first rule", 0);
-    ask(sheet, &r, &s, &t, &p, &x, &n, 13);
+    line(&mut to, b"kind of the first rule", 0)?;
+    ask(&mut to, sheet, &r, &s, &t, &p, &x, &n, 13)?;
     r[0] = 1;
     n[3] = 5;
-    line(b"count of properties", 5);
-    ask(sheet, &r, &s, &t, &p, &x, &n, 13);
+    line(&mut to, b"count of properties", 5)?;
+    ask(&mut to, sheet, &r, &s, &t, &p, &x, &n, 13)
 }
 
-fn line(name: &[u8], n: u64) {
-    io::write_all(STDOUT_FILENO, name);
-    io::write_all(STDOUT_FILENO, b" ");
-    io::print_decimal(STDOUT_FILENO, n);
-    io::write_all(STDOUT_FILENO, b"\n");
+fn line<W: Write>(out: &mut W, name: &[u8], n: u64) -> io::Result<()>
+    ensures { OnOk result (Appends (W.contents out.old) (W.contents out.new) (name.now ++ (32 ∷ (decimal n ++ (10 ∷ []))))) }
+{
+    stdio::line(out, name, n)
 }
 
 // All calls for one open way: each answer, and its first word.
-fn ask(
+fn ask<W: Write>(
+    to: &mut W,
     sheet: &[u8],
     r: &Table,
     s: &Table,
@@ -54,15 +56,16 @@ fn ask(
     x: &[f64; 4],
     n: &[u64; 6],
     zoom: u8,
-) {
-    ask_maps(sheet, r, s, t, p, x, n, zoom);
-    ask_styles(sheet, r, s, t, p, x, n, zoom);
-    ask_canvas(sheet, r, s, t, p, x, n);
-    ask_nodes(sheet, r, s, t, p, x, n, zoom);
-    ask_areas(sheet, r, s, t, p, x, n, zoom);
+) -> io::Result<()> {
+    ask_maps(to, sheet, r, s, t, p, x, n, zoom)?;
+    ask_styles(to, sheet, r, s, t, p, x, n, zoom)?;
+    ask_canvas(to, sheet, r, s, t, p, x, n)?;
+    ask_nodes(to, sheet, r, s, t, p, x, n, zoom)?;
+    ask_areas(to, sheet, r, s, t, p, x, n, zoom)
 }
 
-fn ask_maps(
+fn ask_maps<W: Write>(
+    to: &mut W,
     sheet: &[u8],
     r: &Table,
     s: &Table,
@@ -71,7 +74,7 @@ fn ask_maps(
     x: &[f64; 4],
     n: &[u64; 6],
     zoom: u8,
-) {
+) -> io::Result<()> {
     let mut out = [9u64; 5];
     let mut maps = [9u32; 4323];
     let a = mapcss_property_maps(
@@ -87,11 +90,12 @@ fn ask_maps(
         &mut maps,
         &mut out,
     );
-    told(b"maps", a, &out);
-    line(b"first property", wide(maps[2]));
+    told(to, b"maps", a, &out)?;
+    line(to, b"first property", wide(maps[2]))
 }
 
-fn ask_styles(
+fn ask_styles<W: Write>(
+    to: &mut W,
     sheet: &[u8],
     r: &Table,
     s: &Table,
@@ -100,7 +104,7 @@ fn ask_styles(
     x: &[f64; 4],
     n: &[u64; 6],
     zoom: u8,
-) {
+) -> io::Result<()> {
     let mut out = [9u64; 5];
     let mut words = [9u64; 1664];
     let mut floats = [9.0f64; 192];
@@ -122,11 +126,12 @@ fn ask_styles(
         &mut layers,
         &mut out,
     );
-    told(b"styles", a, &out);
-    line(b"selector", words[0]);
+    told(to, b"styles", a, &out)?;
+    line(to, b"selector", words[0])
 }
 
-fn ask_canvas(
+fn ask_canvas<W: Write>(
+    to: &mut W,
     sheet: &[u8],
     r: &Table,
     s: &Table,
@@ -134,14 +139,15 @@ fn ask_canvas(
     p: &Table,
     x: &[f64; 4],
     n: &[u64; 6],
-) {
+) -> io::Result<()> {
     let mut out = [9u64; 5];
     let a = mapcss_canvas_color(sheet, r, s, t, p, x, n, 0, &mut out);
-    told(b"canvas", a, &out);
-    line(b"red", out[1]);
+    told(to, b"canvas", a, &out)?;
+    line(to, b"red", out[1])
 }
 
-fn ask_nodes(
+fn ask_nodes<W: Write>(
+    to: &mut W,
     sheet: &[u8],
     r: &Table,
     s: &Table,
@@ -150,7 +156,7 @@ fn ask_nodes(
     x: &[f64; 4],
     n: &[u64; 6],
     zoom: u8,
-) {
+) -> io::Result<()> {
     let mut out = [9u64; 5];
     let mut list = [9u32; 6];
     let a = mapcss_style_entities(
@@ -169,10 +175,11 @@ fn ask_nodes(
         &mut list,
         &mut out,
     );
-    told(b"nodes", a, &out);
+    told(to, b"nodes", a, &out)
 }
 
-fn ask_areas(
+fn ask_areas<W: Write>(
+    to: &mut W,
     sheet: &[u8],
     r: &Table,
     s: &Table,
@@ -181,7 +188,7 @@ fn ask_areas(
     x: &[f64; 4],
     n: &[u64; 6],
     zoom: u8,
-) {
+) -> io::Result<()> {
     let mut out = [9u64; 5];
     let mut list = [9u32; 6];
     let a = mapcss_style_areas(
@@ -201,13 +208,13 @@ fn ask_areas(
         &mut list,
         &mut out,
     );
-    told(b"areas", a, &out);
-    line(b"first entry's stream", word_at(&list[..], 0) as u64);
+    told(to, b"areas", a, &out)?;
+    line(to, b"first entry's stream", word_at(&list[..], 0) as u64)
 }
 
-fn told(name: &[u8], answer: u64, out: &[u64; 5]) {
-    line(name, answer);
-    line(b"  word", out[0]);
+fn told<W: Write>(to: &mut W, name: &[u8], answer: u64, out: &[u64; 5]) -> io::Result<()> {
+    line(to, name, answer)?;
+    line(to, b"  word", out[0])
 }
 
 fn wide(w: u32) -> u64 {

@@ -4,56 +4,55 @@
 use base::refusal::Refusal;
 use bundle::Checked;
 use group::Pair;
-use libc::{STDIN_FILENO, STDOUT_FILENO};
+use std::io;
+use std::io::Write;
 
-fn main() {
-    let mut input = io::large_buffer();
-    let n = io::read_full(STDIN_FILENO, &mut input);
-    print_texts(&input[..n]);
+fn main(rt: HostRuntime) -> io::Result<()> {
+    let mut input = stdio::large_buffer();
+    let n = stdio::read_full(&mut rt.stdin(), &mut input)?;
+    print_texts(&mut rt.stdout(), &input[..n])
 }
 
-fn print_texts(s: &[u8]) {
+fn print_texts<W: Write>(out: &mut W, s: &[u8]) -> io::Result<()> {
     match bundle::check_bundle(s) {
-        Checked::BadBundle(r) => {
-            print_refusal(r);
-        }
-        Checked::Texts(count) => {
-            print_all(s, count);
-        }
+        Checked::BadBundle(r) => print_refusal(out, r),
+        Checked::Texts(count) => print_all(out, s, count),
     }
 }
 
-fn print_all(s: &[u8], count: usize) {
+fn print_all<W: Write>(out: &mut W, s: &[u8], count: usize) -> io::Result<()> {
     let mut k: usize = 0;
     while k < count {
-        print_text(s, k);
+        print_text(out, s, k)?;
         k += 1;
     }
+    Ok(())
 }
 
-fn print_text(s: &[u8], k: usize) {
+fn print_text<W: Write>(out: &mut W, s: &[u8], k: usize) -> io::Result<()> {
     match bundle::text_at(s, k) {
-        Pair::Broken => {}
+        Pair::Broken => Ok(()),
         Pair::Two(name, text) => {
             let bytes = base::part(s, text);
-            io::write_all(STDOUT_FILENO, base::part(s, name));
-            print_number(bytes.len());
-            io::write_all(STDOUT_FILENO, b"\n");
+            out.write_all(base::part(s, name))?;
+            print_number(out, bytes.len())?;
+            out.write_all(b"\n")
         }
     }
 }
 
-fn print_refusal(r: Refusal) {
-    io::write_all(STDOUT_FILENO, b"refused");
-    print_number(r.number);
-    print_number(r.reason);
-    print_number(r.text);
-    print_number(r.line);
-    print_number(r.character);
-    io::write_all(STDOUT_FILENO, b"\n");
+fn print_refusal<W: Write>(out: &mut W, r: Refusal) -> io::Result<()> {
+    out.write_all(b"refused")?;
+    print_number(out, r.number)?;
+    print_number(out, r.reason)?;
+    print_number(out, r.text)?;
+    print_number(out, r.line)?;
+    print_number(out, r.character)?;
+    out.write_all(b"\n")
 }
 
-fn print_number(n: usize) {
-    io::write_all(STDOUT_FILENO, b" ");
-    io::print_decimal(STDOUT_FILENO, n as u64);
+fn print_number<W: Write>(out: &mut W, n: usize) -> io::Result<()>
+    ensures { OnOk result (Appends (W.contents out.old) (W.contents out.new) (32 ∷ decimal n)) }
+{
+    write!(out, " {n}")
 }

@@ -3,20 +3,24 @@
 
 ghost use Rattle.std.specs.Prelude.{◌≤◌};
 
-use libc::STDOUT_FILENO;
+ghost use Rattle.std.specs.Prelude.{◌≤◌, OnOk, ◌++◌, ◌∷◌, [], decimal};
+ghost use Rattle.std.specs.Io.KnownBytes.{Appends};
+
+use std::io;
+use std::io::Write;
 use utf8::Char;
 
-fn main() {
+fn main(rt: HostRuntime) -> io::Result<()> {
     let t = scan();
-    line(b"scalar values", t.values);
-    line(b"found again", t.found);
+    let mut out = rt.stdout();
+    line(&mut out, b"scalar values", t.values)?;
+    line(&mut out, b"found again", t.found)
 }
 
-fn line(name: &[u8], n: u64) {
-    io::write_all(STDOUT_FILENO, name);
-    io::write_all(STDOUT_FILENO, b" ");
-    io::print_decimal(STDOUT_FILENO, n);
-    io::write_all(STDOUT_FILENO, b"\n");
+fn line<W: Write>(out: &mut W, name: &[u8], n: u64) -> io::Result<()>
+    ensures { OnOk result (Appends (W.contents out.old) (W.contents out.new) (name.now ++ (32 ∷ (decimal n ++ (10 ∷ []))))) }
+{
+    stdio::line(out, name, n)
 }
 
 #[derive(Clone, Copy)]
