@@ -2,7 +2,6 @@
 #![tactic(auto)]
 
 ghost use Rattle.std.specs.Prelude.{◌≤◌};
-
 ghost use Rattle.std.specs.Prelude.{◌≤◌, OnOk, ◌++◌, ◌∷◌, [], decimal};
 ghost use Rattle.std.specs.Io.KnownBytes.{Appends};
 

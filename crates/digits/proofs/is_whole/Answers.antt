@@ -13,7 +13,7 @@ truncating_f64_to_u64-requires c = record {
   lower_bound = whole_from c.args.x _ (subst T (sym c.well_formed.0.1) tt)
       c.without_sign-a.ensures c.if-a.true;
   upper_bound = whole_to c.args.x _ (subst T (sym c.well_formed.0.1) tt)
-      c.without_sign-a.ensures c.if-a.true
+      c.without_sign-a.ensures c.if-a.true;
 }
 
 pub int_to_float-result : goal.int_to_float-result

@@ -14,7 +14,7 @@ truncating_f64_to_u64-requires c = record {
       c.requires);
   upper_bound = whole_to c.args.x _ (subst T (sym c.well_formed.0.1) tt) c.without_sign.ensures
       (whole_below c.args.x _ (subst T (sym c.well_formed.0.1) tt) c.without_sign.ensures
-      c.requires)
+      c.requires);
 }
 
 pub returns : goal.returns
