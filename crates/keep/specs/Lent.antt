@@ -53,7 +53,9 @@ counted n =
     { rules = n; selectors = 0; tests = 0; properties = 0; numbers = 0; colors = 0; selector = 0; test = 0; property = 0; number = 0 }
 
 abbrev pub none_yet : Tally
-none_yet = counted 0
+none_yet =
+    record
+    { rules = 0; selectors = 0; tests = 0; properties = 0; numbers = 0; colors = 0; selector = 0; test = 0; property = 0; number = 0 }
 
 abbrev pub range : ℕ → ℕ → Range
 range from to = record { from = from; to = to }

@@ -27,7 +27,7 @@ use Rattle.token_kind.specs.Signs.{is_pair, first_pair, first_letter, get_two_ch
 use Rattle.token_kind.specs.declared.Reading.TheVariants.{Ready}
 use Rattle.token_kind.specs.declared.Token.{Token}
 use Rattle.token_kind.specs.declared.Token.TheVariants.{Number}
-use Rattle.lexical.specs.Lexical.{Chars, is_digit, is_dot, begins, Run, none, one, IsUnsigned, whole, mixed, fraction, added_all, number_of}
+use Rattle.lexical.specs.Lexical.{Chars, is_digit, is_dot, begins, Run, none, one, IsUnsigned, whole, mixed, fraction, added, added_all, number_of}
 use Rattle.lexical.specs.Lexed.{characters_at}
 use Rattle.lexical.proofs.Characters.{Walk, here, step, walk_past, walk_short, stopped}
 use Rattle.lexical.proofs.Letters.{apart, digit_no_sign, digit_no_pair, digit_no_space, digit_span}
@@ -53,7 +53,7 @@ digit_no_start k h =
 added_append : (x : Sum) (ks js : Chars) → added_all x (ks ++ js) ≡ added_all (added_all x ks) js
 unfolding added_all
 added_append x [] js = refl
-added_append x (k ∷ ks) js = added_append _ ks js
+added_append x (k ∷ ks) js = added_append (added x k) ks js
 
 added_dot : (x : Sum) (ks js : Chars) → added_all x (ks ++ (46 ∷ js)) ≡ added_all (dotted (added_all x ks)) js
 unfolding added_all on-Digit to_digit digit_value pick

@@ -141,6 +141,7 @@ module _ (s : Bytes) where
   block_turns x (suc n) (step p (step q here)) close l = rw (p, q)
   block_turns x (suc n) (step p (step q w)) (star e r) l = rw (p, q, e) (block_turns x n (step q w) r (omega arith))
   block_turns x (suc n) (step p w) (inner e r) l = rw (p, e) (block_turns x n w r (omega arith))
+  block_turns x (suc n) {c = c} here r l = elim r [ ]
 
   line_comment :
       (b : Cursor) {c d e : Cursor} {xs : Chars}
