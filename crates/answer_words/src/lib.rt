@@ -1,4 +1,6 @@
 // An answer's number and its five words, of a load six; words into a lent slice.
+#![tactic(auto)]
+
 ghost use Rattle.std.specs.Prelude.{◌≡◌};
 ghost use Rattle.base.specs.Table.{stored};
 ghost use Rattle.answer_words.specs.Words.{refused, counted, five_words, six_words};

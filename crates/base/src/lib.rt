@@ -1,4 +1,6 @@
 // Total reads and stores of slices, ranges, comparison of byte strings, lent tables, and the refusal of every call.
+#![tactic(auto)]
+
 ghost use Rattle.std.specs.Prelude.{◌≡◌, ℕ, ◌-◌, length, get_or, set, replicate, take, drop};
 ghost use Rattle.base.specs.Bytes.{same, precedes, within};
 ghost use Rattle.base.specs.Table.{zero_float, capacity_of};

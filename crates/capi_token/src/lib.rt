@@ -24,6 +24,8 @@
 //               an error: reason (1 to 12), line, character
 //
 // number[0] is the number of a Number, and 0.0 for everything else.
+#![tactic(auto)]
+
 ghost use Rattle.std.specs.Prelude.{◌≡◌};
 ghost use Rattle.base.specs.Table.{stored};
 ghost use Rattle.cursor.specs.Cursor.{cursor};

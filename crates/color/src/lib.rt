@@ -1,4 +1,6 @@
 // Colours, and the ten that have a name.
+#![tactic(auto)]
+
 ghost use Rattle.std.specs.Prelude.{◌≡◌};
 ghost use Rattle.color.specs.Named.{color_named, known};
 

@@ -1,4 +1,6 @@
 // The cursor of a text and what the tokenizer builds on: the next character, classes of characters, blanks, digits.
+#![tactic(auto)]
+
 ghost use Rattle.std.specs.Prelude.{◌≡◌, ◌&&◌, leb};
 ghost use Rattle.utf8.specs.Utf8.{char_at};
 ghost use Rattle.cursor.specs.Cursor.{start, bump, passed, next_char};

@@ -1,4 +1,6 @@
 // The entity: its layout and its UTF-8, alone and in a stream.
+#![tactic(auto)]
+
 ghost use Rattle.std.specs.Prelude.{◌≡◌, map, ◌-◌};
 ghost use Rattle.base.specs.Bytes.{within};
 ghost use Rattle.base.specs.Map.{key_of};

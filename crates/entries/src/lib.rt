@@ -1,4 +1,6 @@
 // Storing the entries of a sheet's tables. docs/TABLES.md has every word.
+#![tactic(auto)]
+
 ghost use Rattle.std.specs.Prelude.{◌≡◌, [], ◌∷◌};
 ghost use Rattle.table.specs.Value.{word};
 ghost use Rattle.entries.specs.Put.{put_of};

@@ -1,4 +1,6 @@
 // What the loader reads from: the tokens of a text of the bundle.
+#![tactic(auto)]
+
 use base::Range;
 use base::refusal::Refusal;
 use cursor::Cursor;

@@ -1,4 +1,6 @@
 // What the loader stores into: six lent tables with their counts.
+#![tactic(auto)]
+
 ghost use Rattle.std.specs.Prelude.{◌≡◌};
 ghost use Rattle.base.specs.Bytes.{same, within};
 ghost use Rattle.color.specs.Named.{rgb};

@@ -1,4 +1,6 @@
 // The style of a layer: property_map_to_style of styler.rs, over the numbers of the layer's properties.
+#![tactic(auto)]
+
 ghost use Rattle.std.specs.Prelude.{◌≡◌};
 ghost use Rattle.style.specs.Style.{default_z, casing_multiplier, base_width, width_or_zero, casing_only, full_casing, casing_width, multiplier_of, font_size, text_style_in, z_index_in, foreground_in, style_at};
 

@@ -1,4 +1,6 @@
 // The styles of one entity: those of its layers in order, over lent tables and any bytes. `*` gets none.
+#![tactic(auto)]
+
 ghost use Rattle.std.specs.Prelude.{◌≡◌, ◌≤◌, length};
 ghost use Rattle.styles.specs.Styles.{blank_layer, no_styles, layer_styled, filled_layers, walked_styles, styles_of};
 

@@ -1,4 +1,6 @@
 // The tables of a sheet: words of their entries, and a property's value. docs/TABLES.md has every word.
+#![tactic(auto)]
+
 ghost use Rattle.std.specs.Prelude.{◌≡◌, ◌%◌, ◌<◌};
 ghost use Rattle.color.specs.Named.{rgb};
 ghost use Rattle.table.specs.Value.{word_at, range_at, value_at};

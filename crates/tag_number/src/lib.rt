@@ -1,4 +1,6 @@
 // The numbers that a tag's value spells.
+#![tactic(auto)]
+
 ghost use Rattle.std.specs.Prelude.{◌≡◌, map, ◌-◌, ◌<◌, ◌^◌, pos, neg_ℤ, ◌-ℤ◌, true, length};
 ghost use Rattle.std.proofs.Math.Option.{some};
 ghost use Rattle.std.specs.Float.{inf};

@@ -1,4 +1,6 @@
 // The tokens, and the signs among them.
+#![tactic(auto)]
+
 ghost use Rattle.std.specs.Prelude.{◌≡◌};
 ghost use Rattle.token_kind.specs.Reason.{lexer_error};
 

@@ -1,4 +1,6 @@
 // Whether handed tables are sound, every entry below the counts: what refusal 22 judges.
+#![tactic(auto)]
+
 ghost use Rattle.std.specs.Prelude.{◌≡◌, eqb, leb, ◌≤◌, ◌<◌, ◌+◌, ◌*◌, ◌%◌, length};
 ghost use Rattle.table.specs.Value.{word_at};
 ghost use Rattle.valid.specs.Valid.{span_in, two_zeros, marked_span, rule_sound, selector_sound, named_entry, test_sound, test_value, number_value, property_sound, value_sound, one_span, two_spans, color_words, delta_words, all_below, entries_held, counts_held, entries_sound, tables_sound};
