@@ -7,6 +7,7 @@ use Rattle.grammar.specs.View.{is_sign}
 use Rattle.grammar.specs.Token.{semi_colon}
 use Rattle.base.specs.Choice.{via}
 use mathlib.Core.Path.{refl, ap}
+use borrow.Enum.Refused.{opened}
 use Rattle.input.proofs.tokens.expect_semicolon.Goals as goal
 
 pub returns-in-NoToken : goal.returns-in-NoToken
@@ -19,4 +20,4 @@ returns-in-SemiColon c = Mandatory-Got _ _ _ (via c.read_mandatory_token.ensures
 
 pub returns-in_default : goal.returns-in_default
 unfolding expect_of
-returns-in_default c = Mandatory-Got _ _ _ (via c.read_mandatory_token.ensures c.in-Got.is) (cond_false _ _ _ (not_sign _ (24 ∷ []) _ c.in_default.in_default-own.keys2 semi_colon tt) (ap Another c.refuse.ensures))
+returns-in_default c = Mandatory-Got _ _ _ (via c.read_mandatory_token.ensures c.in-Got.is) (cond_false _ _ _ (not_sign _ (24 ∷ []) _ (opened c.in_default.in_default-own.keys2) semi_colon tt) (ap Another c.refuse.ensures))

@@ -4,6 +4,7 @@ use Rattle.input.specs.Text.{placed}
 use Rattle.token_kind.specs.declared.Token.TheVariants.{Import, Identifier, Text, ColorRef}
 use Rattle.token_laws.specs.Claims.{Inside}
 use mathlib.Core.Path.{sym, ap, subst, ◌∙◌}
+use borrow.Enum.Refused.{opened}
 use Rattle.input.proofs.tokens.placed.Goals as goal
 
 pub shifted-requires : goal.shifted-requires
@@ -31,4 +32,4 @@ pub returns-in-ColorRef : goal.returns-in-ColorRef
 returns-in-ColorRef c = ap ColorRef c.shifted-in-ColorRef.ensures ∙ sym (ap (placed _) c.in-ColorRef.is)
 
 pub returns-in_default : goal.returns-in_default
-returns-in_default c = placed_other _ _ c.in_default.in_default-own.keys5
+returns-in_default c = placed_other _ _ (opened c.in_default.in_default-own.keys5)

@@ -6,6 +6,7 @@ use Rattle.grammar.specs.View.{on_number}
 use Rattle.base.specs.Choice.{via}
 use mathlib.Core.Path.{◌≡◌, refl, ap}
 use mathlib.Core.List.{[], ◌∷◌}
+use borrow.Enum.Refused.{opened}
 use Rattle.input.proofs.tokens.read_figure.Goals as goal
 
 pub returns-in-NoToken : goal.returns-in-NoToken
@@ -18,4 +19,4 @@ returns-in-Number c = got_known _ _ _ (via c.read_mandatory_token.ensures c.in-G
 
 pub returns-in_default : goal.returns-in_default
 unfolding figure_of
-returns-in_default c = Mandatory-Got _ _ _ (via c.read_mandatory_token.ensures c.in-Got.is) (not_number_lem _ (3 ∷ []) _ c.in_default.in_default-own.keys2 (◌≡◌ _) _ _ tt (ap NoFigure c.refuse.ensures))
+returns-in_default c = Mandatory-Got _ _ _ (via c.read_mandatory_token.ensures c.in-Got.is) (not_number_lem _ (3 ∷ []) _ (opened c.in_default.in_default-own.keys2) (◌≡◌ _) _ _ tt (ap NoFigure c.refuse.ensures))

@@ -6,6 +6,7 @@ use Rattle.grammar.specs.View.{on_identifier}
 use Rattle.base.specs.Choice.{via}
 use mathlib.Core.Path.{◌≡◌, refl, ap}
 use mathlib.Core.List.{[], ◌∷◌}
+use borrow.Enum.Refused.{opened}
 use Rattle.input.proofs.tokens.read_identifier.Goals as goal
 
 pub returns-in-NoToken : goal.returns-in-NoToken
@@ -18,4 +19,4 @@ returns-in-Identifier c = got_known _ _ _ (via c.read_mandatory_token.ensures c.
 
 pub returns-in_default : goal.returns-in_default
 unfolding word_of
-returns-in_default c = Mandatory-Got _ _ _ (via c.read_mandatory_token.ensures c.in-Got.is) (not_identifier _ (1 ∷ []) _ c.in_default.in_default-own.keys2 (◌≡◌ _) _ _ tt (ap NoWord c.refuse.ensures))
+returns-in_default c = Mandatory-Got _ _ _ (via c.read_mandatory_token.ensures c.in-Got.is) (not_identifier _ (1 ∷ []) _ (opened c.in_default.in_default-own.keys2) (◌≡◌ _) _ _ tt (ap NoWord c.refuse.ensures))

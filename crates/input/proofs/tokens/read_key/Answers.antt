@@ -6,6 +6,7 @@ use Rattle.grammar.specs.Token.{colon}
 use Rattle.base.specs.Choice.{via}
 use mathlib.Core.Path.{refl}
 use mathlib.Core.List.{[], ◌∷◌}
+use borrow.Enum.Refused.{opened}
 use Rattle.input.proofs.tokens.read_key.Goals as goal
 
 pub returns-in-NoToken : goal.returns-in-NoToken
@@ -18,4 +19,4 @@ returns-in-Colon c = Mandatory-Got _ _ _ (via c.read_mandatory_token.ensures c.i
 
 pub returns-in_default : goal.returns-in_default
 unfolding key_of
-returns-in_default c = Mandatory-Got _ _ _ (via c.read_mandatory_token.ensures c.in-Got.is) (cond_false _ _ _ (not_sign _ (22 ∷ []) _ c.in_default.in_default-own.keys2 colon tt) refl)
+returns-in_default c = Mandatory-Got _ _ _ (via c.read_mandatory_token.ensures c.in-Got.is) (cond_false _ _ _ (not_sign _ (22 ∷ []) _ (opened c.in_default.in_default-own.keys2) colon tt) refl)
