@@ -2,7 +2,8 @@
 // them. It prints the number of each case that differs, then the totals.
 #![tactic(auto)]
 
-ghost use Rattle.std.specs.Prelude.{◌≡◌, ◌+◌, ◌≤◌, ◌<◌, length};
+ghost use Rattle.std.specs.Prelude.{◌≡◌, ◌+◌, ◌≤◌, ◌<◌, length, IfOk, OnOk, ◌++◌, ◌∷◌, [], decimal};
+ghost use Rattle.std.specs.Io.KnownBytes.{Appends};
 
 use capi::{mapcss_load, mapcss_style_areas, mapcss_style_entities};
 use std::io;

@@ -134,7 +134,7 @@ module _ (bundle : Bytes) where
         → length pre ≡ i * 8
         → AllGenuine Γ
         → colors_from bundle (pre ++ (color_rows Γ ++ z)) i (length Γ) ≡ Γ
-    unfolding colors_from
+    unfolding colors_from color_rows
     back pre i [] z e none = refl
     back pre i (d ∷ Γ) z e (next g s r) =
         let w = color_rows Γ ++ z in
@@ -189,7 +189,7 @@ module _ (bundle : Bytes) where
         → length pre ≡ i * 8
         → AllGenuine Γ
         → Sought a c (pre ++ (color_rows Γ ++ z)) pre z Γ (place_from bundle a.bytes (pre ++ (color_rows Γ ++ z)) i (length Γ))
-    unfolding place_from define
+    unfolding place_from define color_rows
     seek a c pre i [] z e none = new refl
     seek a c pre i (d ∷ Γ) z e (next g s r) =
         let w = color_rows Γ ++ z in

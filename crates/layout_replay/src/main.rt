@@ -2,7 +2,8 @@
 // whose answer differs, then the totals.
 #![tactic(auto)]
 
-ghost use Rattle.std.specs.Prelude.{◌≡◌, ◌+◌, ◌*◌, ◌≤◌, ◌<◌, length};
+ghost use Rattle.std.specs.Prelude.{◌≡◌, ◌+◌, ◌*◌, ◌≤◌, ◌<◌, length, IfOk, OnOk, ◌++◌, ◌∷◌, [], decimal};
+ghost use Rattle.std.specs.Io.KnownBytes.{Appends};
 
 use base::Range;
 use base::refusal::Refusal;

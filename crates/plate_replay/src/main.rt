@@ -2,7 +2,8 @@
 // prints by. It prints the number of each case that differs, then the totals.
 #![tactic(auto)]
 
-ghost use Rattle.std.specs.Prelude.{◌≡◌, ◌+◌, ◌≤◌, ◌<◌, length};
+ghost use Rattle.std.specs.Prelude.{◌≡◌, ◌+◌, ◌≤◌, ◌<◌, length, IfOk, OnOk, ◌++◌, ◌∷◌, [], decimal};
+ghost use Rattle.std.specs.Io.KnownBytes.{Appends};
 
 use base::refusal::Refusal;
 use printing::Plated;

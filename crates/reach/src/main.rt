@@ -3,7 +3,8 @@
 // The rules of `default` differ, one sheet has a layer `b` too, and ids and other tags differ.
 #![tactic(auto)]
 
-ghost use Rattle.std.specs.Prelude.{◌≤◌};
+ghost use Rattle.std.specs.Prelude.{◌≤◌, OnOk, ◌++◌, ◌∷◌, [], decimal};
+ghost use Rattle.std.specs.Io.KnownBytes.{Appends};
 
 use color::NamedColor;
 use parser::Loaded;

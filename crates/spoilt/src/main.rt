@@ -1,6 +1,9 @@
 // A sheet through the exports, as it was loaded and with a word of its tables or a count spoilt: what each call answers.
 #![tactic(auto)]
 
+ghost use Rattle.std.specs.Prelude.{OnOk, ◌++◌, ◌∷◌, [], decimal};
+ghost use Rattle.std.specs.Io.KnownBytes.{Appends};
+
 use base::word_at;
 use capi::{
     mapcss_canvas_color, mapcss_load, mapcss_property_maps, mapcss_style_areas,

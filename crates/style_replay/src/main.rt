@@ -2,7 +2,8 @@
 // floats and tags of each layer included. It prints the number of each case that differs, then the totals.
 #![tactic(auto)]
 
-ghost use Rattle.std.specs.Prelude.{◌≡◌, ◌+◌, ◌≤◌, ◌<◌, length};
+ghost use Rattle.std.specs.Prelude.{◌≡◌, ◌+◌, ◌≤◌, ◌<◌, length, IfOk, OnOk, ◌++◌, ◌∷◌, [], decimal};
+ghost use Rattle.std.specs.Io.KnownBytes.{Appends};
 
 use capi::{mapcss_load, mapcss_styles};
 use std::io;

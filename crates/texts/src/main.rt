@@ -1,6 +1,9 @@
 // An example: reads a bundle and prints each text's name and length, or `refused` with the five numbers.
 #![tactic(auto)]
 
+ghost use Rattle.std.specs.Prelude.{OnOk, ◌∷◌, decimal};
+ghost use Rattle.std.specs.Io.KnownBytes.{Appends};
+
 use base::refusal::Refusal;
 use bundle::Checked;
 use group::Pair;

@@ -1,7 +1,6 @@
 // Decodes every scalar value from its encoding. It prints how many there are, and how many are found again.
 #![tactic(auto)]
 
-ghost use Rattle.std.specs.Prelude.{◌≤◌};
 ghost use Rattle.std.specs.Prelude.{◌≤◌, OnOk, ◌++◌, ◌∷◌, [], decimal};
 ghost use Rattle.std.specs.Io.KnownBytes.{Appends};
 

@@ -1,0 +1,20 @@
+use Rattle.keep.proofs.KeepLaws.{place_here, place_further, place_none}
+use Rattle.keep.specs.Lent.{place_from}
+use Rattle.base.specs.Choice.{via}
+use native.Mathlib.Nat.{sub-zero}
+use native.Mathlib.Omega.{arith}
+use mathlib.Core.Path.{ap, ◌∙◌}
+use Prim.Native.Nat.{◌-◌}
+use Rattle.keep.proofs.find_color.Goals as goal
+
+pub loop-i-init : goal.loop-i-init
+loop-i-init c = (omega arith, rw sub-zero)
+
+pub returns-then-has_name : goal.returns-then-has_name
+returns-then-has_name c = place_here _ _ _ _ _ c.loop-i-test.true (via c.has_name.ensures c.if-has_name.true) ∙ c.loop-i.invariant.1 ∙ ap (λ w. place_from c.args.bundle.now w c.args.colors.now 0 c.args.n) c.part-wanted.ensures
+
+pub loop-i-preserved : goal.loop-i-preserved
+loop-i-preserved c = (omega arith, place_further _ _ _ _ _ c.loop-i-test.true (via c.has_name.ensures c.if-has_name.false) ∙ c.loop-i.invariant.1)
+
+pub returns : goal.returns
+returns c = place_none _ _ _ _ _ c.loop-i-test.false ∙ c.loop-i.invariant.1 ∙ ap (λ w. place_from c.args.bundle.now w c.args.colors.now 0 c.args.n) c.part-wanted.ensures
