@@ -8,7 +8,7 @@ use Rattle.base.specs.Bytes.{Bytes}
 use Rattle.base.specs.Table.{zero_float}
 use Rattle.sheet.specs.Digits.{digits_for}
 use Rattle.grammar.specs.Capacity.{empty, tables_of, Bounded}
-use Rattle.grammar.specs.CapacityLaws.{reading_takes}
+use Rattle.grammar.proofs.CapacityLaws.{reading_takes}
 use Rattle.grammar.specs.Entries.{entries_of}
 use Rattle.grammar.specs.Reading.{Reading}
 use Rattle.grammar.specs.Rules.{rules_of_reading}

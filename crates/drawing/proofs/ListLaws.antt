@@ -14,7 +14,7 @@ use Rattle.base.specs.Choice.{by-test}
 use Rattle.base.specs.Table.{padded, flat}
 use Rattle.base.proofs.Tables.{padded_none, padded_entry}
 use Rattle.cascade.specs.Sort.{place, sort}
-use Rattle.cascade.specs.SortLaws.{sort_map}
+use Rattle.cascade.proofs.SortLaws.{sort_map}
 use Rattle.decode.specs.Decode.{places}
 use Rattle.order.specs.Keys.{Key, key_at, key_le, number_le}
 use Rattle.drawing.specs.Gather.{keys_at}

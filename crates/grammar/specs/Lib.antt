@@ -1,6 +1,5 @@
 pub mod Token
 pub mod View
-pub mod ViewLaws
 pub mod Reading
 pub mod Rules
 pub mod Input
@@ -13,15 +12,5 @@ pub mod Counts
 pub mod Spelled
 pub mod Alike
 pub mod Accepted
-pub mod Laws
-pub mod Sound
-pub mod Complete
-pub mod CapacityLaws
-pub mod CountsLaws
-pub mod SpelledProof
-pub mod AlikeProof
-pub mod AcceptedProof
 pub mod Texts
-pub mod TextsProof
 pub mod Spelling
-pub mod Examples

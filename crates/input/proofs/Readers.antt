@@ -16,7 +16,7 @@ use Rattle.token.specs.declared.Step.TheVariants.{Wrong, End, Took}
 use Rattle.token_kind.specs.declared.Token.{Token}
 use Rattle.grammar.specs.Token.{Name, joined, Sign, Token as Token', import, identifier, string, color_ref, number, zoom_range, color, sign, colon}
 use Rattle.grammar.specs.View.{is_sign, on_identifier, on_number}
-use Rattle.grammar.specs.ViewLaws.{identifier_holds, number_holds}
+use Rattle.grammar.proofs.ViewLaws.{identifier_holds, number_holds}
 use Rattle.grammar.specs.Input.{broken, end, token, Store, Answer, refused, on_next}
 use Rattle.grammar.specs.Reader.{read_mandatory_token, unexpected_token, expect_simple_token, read_identifier, read_key}
 use Rattle.table.specs.declared.Name.{Name as Key'}

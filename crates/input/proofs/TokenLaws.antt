@@ -47,7 +47,7 @@ use Rattle.token_kind.specs.declared.Token.TheVariants.{
 }
 use Rattle.grammar.specs.Token.{Name, Sign, Token as Token', import, identifier, string, color_ref, number, zoom_range, color, sign, left_paren, right_paren, left_bracket, right_bracket, left_brace, right_brace, equal_sign, not_equal_sign, less_sign, greater_sign, less_or_equal_sign, greater_or_equal_sign, regex_match, bang, question_mark, colon, double_colon, semi_colon, comma}
 use Rattle.grammar.specs.View.{is_sign, on_import, on_identifier, on_string, on_color_ref, on_number, on_zoom_range, on_color}
-use Rattle.grammar.specs.ViewLaws.{sign_is, import_holds, identifier_holds, string_holds, color_ref_holds, number_holds, zoom_range_holds, color_holds}
+use Rattle.grammar.proofs.ViewLaws.{sign_is, import_holds, identifier_holds, string_holds, color_ref_holds, number_holds, zoom_range_holds, color_holds}
 use Rattle.cursor.specs.declared.Cursor.{Cursor}
 use Rattle.input.specs.Text.{placed, name_in, range_of, token_of}
 use Rattle.input.specs.Elim.{on-Mandatory, Mandatory-Got}

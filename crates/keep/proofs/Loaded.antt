@@ -4,7 +4,7 @@ use mathlib.Core.Path.{◌≡◌}
 use lib.ListN.{length}
 use Rattle.base.specs.Bytes.{Bytes}
 use Rattle.grammar.specs.Accepted.{Reads, load_into}
-use Rattle.grammar.specs.AcceptedProof.{stored_alike, stored_accepted, stored_accepts}
+use Rattle.grammar.proofs.AcceptedProof.{stored_alike, stored_accepted, stored_accepts}
 use Rattle.grammar.specs.Alike.{Alike}
 use Rattle.grammar.specs.Capacity.{empty, tables_of, Bounded}
 use Rattle.grammar.specs.Input.{read}

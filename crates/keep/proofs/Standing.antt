@@ -26,7 +26,7 @@ use Rattle.grammar.specs.Reading.{Test, Selector, Property, Colors, color_def, d
 use Rattle.grammar.specs.Input.{Entry, rule_entry, selector_entry, test_entry, property_entry, number_entry, color_entry, table_of}
 use Rattle.grammar.specs.Entries.{count}
 use Rattle.grammar.specs.Capacity.{Tables, tables, empty, add, taken as taken_of, limited, Fits}
-use Rattle.grammar.specs.CapacityLaws.{last_count, onward}
+use Rattle.grammar.proofs.CapacityLaws.{last_count, onward}
 use Rattle.grammar.specs.Alike.{BothPut, both_full, both_take, Proper, Stands}
 use Rattle.keep.specs.Elim.{on-Room, with-Room}
 use Rattle.keep.specs.Encode.{Lengths, capacities, Rows, no_rows, add_row, add_rows, rows_of, color_rows, tally_of, lent_of}

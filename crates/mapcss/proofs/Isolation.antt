@@ -16,10 +16,10 @@ use Rattle.sheet.specs.Sheet.{Selector, Rule, Value}
 use Rattle.cascade.specs.Cascade.{Layers, step}
 use Rattle.cascade.specs.Clause.{default_name, Clause, clause, clauses}
 use Rattle.cascade.specs.Isolation as rules
-use Rattle.cascade.specs.IsolationProof.{isolated, style_isolated}
+use Rattle.cascade.proofs.IsolationProof.{isolated, style_isolated}
 use Rattle.cascade.specs.Map.{keep, map_entry}
 use Rattle.cascade.specs.Match.{tag, test_key, verdict}
-use Rattle.cascade.specs.MatchLaws.{verdict_agree}
+use Rattle.cascade.proofs.MatchLaws.{verdict_agree}
 use Rattle.cascade.specs.Style as theory
 use Rattle.cascade.specs.Style.{layer_tag}
 use Rattle.cascade.specs.Walk.{Answer, refused, layers, to_hit, walk, property_maps}

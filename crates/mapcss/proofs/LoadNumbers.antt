@@ -25,7 +25,7 @@ use Rattle.grammar.specs.Reader.{to_binary_string_test_type, to_binary_numeric_t
 use Rattle.grammar.specs.Reading.{Value, Selector, Colors, color_named, bare, with_zoom, with_test, with_layer, id_to_object_type, Reading}
 use Rattle.grammar.specs.Token.{Name, joined, Sign, Token, right_bracket, left_bracket, left_brace, right_brace, bang, question_mark, colon, double_colon, semi_colon, comma}
 use Rattle.grammar.specs.View.{is_sign, on_sign, color_of}
-use Rattle.grammar.specs.ViewLaws.{import_holds, identifier_holds, string_holds, color_ref_holds, number_holds, zoom_range_holds, color_holds}
+use Rattle.grammar.proofs.ViewLaws.{import_holds, identifier_holds, string_holds, color_ref_holds, number_holds, zoom_range_holds, color_holds}
 use Rattle.keep.specs.Encode.{Lengths, capacities}
 use Rattle.input.specs.Source.{Spot, next_at}
 use Rattle.keep.specs.Source.{reading}

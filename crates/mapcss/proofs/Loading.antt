@@ -12,7 +12,7 @@ use Rattle.bundle.specs.Elim.{on-Checked}
 use Rattle.bundle.specs.declared.Checked.{Checked}
 use Rattle.bundle.specs.declared.Checked.TheVariants.{BadBundle, Texts}
 use Rattle.grammar.specs.Accepted.{load_into}
-use Rattle.grammar.specs.AcceptedProof.{accepted, accepts, one_reading}
+use Rattle.grammar.proofs.AcceptedProof.{accepted, accepts, one_reading}
 use Rattle.grammar.specs.Capacity.{Tables, tables_of}
 use Rattle.grammar.specs.Input.{Answer, refused, read}
 use Rattle.grammar.specs.Reading.{Reading}

@@ -3,8 +3,9 @@ use Prim.Native.Nat.{ℕ}
 use mathlib.Core.Path.{◌≡◌, refl, sym, ap, ◌∙◌}
 use mathlib.Core.List.{List, map, map-map}
 use Rattle.base.specs.Bytes.{Bytes}
-use Rattle.cascade.specs.MeaningProof.{demand_2}
-use Rattle.cascade.specs.Numbered.{map_rule, map_answer, maps_mapped}
+use Rattle.cascade.proofs.MeaningProof.{demand_2}
+use Rattle.cascade.specs.Numbered.{map_rule, map_answer}
+use Rattle.cascade.proofs.NumberedLaws.{maps_mapped}
 use Rattle.cascade.specs.Walk.{Answer, property_maps}
 use Rattle.entity.specs.Layout.{value_of}
 use Rattle.entity.specs.declared.EntityRange.{EntityRange}

@@ -24,7 +24,7 @@ use Rattle.entity.specs.declared.Sort.{Sort}
 use Rattle.entity.specs.declared.Sort.TheVariants.{Any, Nodes, Areas}
 use Rattle.cascade.specs.Clause.{star}
 use Rattle.cascade.specs.Match.{Verdict, pass, fail, out}
-use Rattle.grammar.specs.ViewLaws.{test_holds}
+use Rattle.grammar.proofs.ViewLaws.{test_holds}
 use Rattle.valid.specs.Valid.{tables_sound}
 use Rattle.valid.specs.declared.Counts.{Counts}
 use Rattle.walk.specs.Maps.{finish, walk_of, maps_of}

@@ -17,7 +17,7 @@ use Rattle.entity.specs.declared.Sort.TheVariants.{Nodes, Areas}
 use Rattle.sheet.specs.Sheet.{Rule, Value}
 use Rattle.sheet.specs.Digits.{digits_for}
 use Rattle.cascade.specs.Draw.{Drawn, Drawing, declined, entries, not_after, entity_drawing, join, stream, fit, size, stream_within}
-use Rattle.cascade.specs.DrawProof.{declined_entries, joined, entities_ordered, areas_ordered}
+use Rattle.cascade.proofs.DrawProof.{declined_entries, joined, entities_ordered, areas_ordered}
 use Rattle.cascade.specs.Sort.{sort}
 use Rattle.cascade.specs.Style as theory
 use Rattle.cascade.specs.Walk.{property_maps}

@@ -24,7 +24,7 @@ use Rattle.table.specs.Value.{word_at, range_at}
 use Rattle.cascade.specs.Clause.{layer_name, clause, clauses}
 use Rattle.cascade.specs.Match.{Verdict, verdict}
 use Rattle.cascade.specs.Walk.{Answer, layers, walk, property_maps}
-use Rattle.cascade.specs.WalkLaws.{walk_append}
+use Rattle.cascade.proofs.WalkLaws.{walk_append}
 use Rattle.valid.specs.Valid.{tables_sound}
 use Rattle.valid.specs.declared.Counts.{Counts}
 use Rattle.decode.specs.Decode.{places, places_in, selector_in, name_at, numbered_at}

@@ -19,13 +19,14 @@ use Rattle.sheet.specs.Sheet.{Selector}
 use Rattle.cascade.specs.Map.{DistinctKeys}
 use Rattle.cascade.specs.Clause.{star, layer_name, clause}
 use Rattle.cascade.specs.Match.{Verdict, verdict}
-use Rattle.cascade.specs.MatchLaws.{by-verdict}
+use Rattle.cascade.proofs.MatchLaws.{by-verdict}
 use Rattle.cascade.specs.Cascade.{Hit, Layers, ensure, touch, step}
-use Rattle.cascade.specs.Numbered.{spelled, assigns_spelled}
+use Rattle.cascade.specs.Numbered.{spelled}
+use Rattle.cascade.proofs.NumberedLaws.{assigns_spelled}
 use Rattle.cascade.specs.Rust.{update_entry, update_layer}
-use Rattle.cascade.specs.RustProof.{one_layer, touch_star, ensure_distinct}
+use Rattle.cascade.proofs.RustProof.{one_layer, touch_star, ensure_distinct}
 use Rattle.cascade.specs.Walk.{Answer, refused, layers, crowded, admit, continue, walk}
-use Rattle.cascade.specs.WalkLaws.{walk_append}
+use Rattle.cascade.proofs.WalkLaws.{walk_append}
 use Rattle.decode.specs.Decode.{places}
 use Rattle.walk.specs.Rows.{assigns}
 use Rattle.walk.specs.Run.{Run, stop, going, bind, assign_at, assign_all, seek, touch_of, step_of, hit_of, selectors_of}

@@ -23,7 +23,7 @@ use Rattle.cascade.specs.Map.{map_entry}
 use Rattle.cascade.specs.Numbered.{map_answer}
 use Rattle.cascade.specs.Order.{bool_le}
 use Rattle.cascade.specs.Sort.{sort}
-use Rattle.cascade.specs.SortLaws.{sort_map}
+use Rattle.cascade.proofs.SortLaws.{sort_map}
 use Rattle.cascade.specs.Style as theory
 use Rattle.cascade.specs.Style.{layer_tag, style_from, style_of, styles}
 use Rattle.tag_number.specs.Told.{layer_told}

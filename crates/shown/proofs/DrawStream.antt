@@ -24,8 +24,9 @@ use Rattle.entity.specs.declared.Sort.{Sort}
 use Rattle.entity.proofs.Inverse.{end_there}
 use Rattle.sheet.specs.Sheet.{Rule, Value}
 use Rattle.cascade.specs.Draw.{Drawn, Drawing, declined, entries, entity_drawing, join, fit, size, stream_within}
-use Rattle.cascade.specs.DrawProof.{join_assoc}
-use Rattle.cascade.specs.Numbered.{map_answer, maps_mapped}
+use Rattle.cascade.proofs.DrawProof.{join_assoc}
+use Rattle.cascade.specs.Numbered.{map_answer}
+use Rattle.cascade.proofs.NumberedLaws.{maps_mapped}
 use Rattle.cascade.specs.Walk.{property_maps}
 use Rattle.decode.specs.Decode.{places, numbered_at, rules_at}
 use Rattle.keep.specs.Lent.{Lent, lent, counted}

@@ -9,7 +9,7 @@ use Rattle.base.specs.Choice.{pick}
 use Rattle.entity.specs.Layout.{stream_of}
 use Rattle.entity.specs.declared.Sort.TheVariants.{Nodes, Areas}
 use Rattle.cascade.specs.Draw.{Drawn, Drawing, declined, entries, not_after, join, size}
-use Rattle.cascade.specs.DrawProof.{join_nil}
+use Rattle.cascade.proofs.DrawProof.{join_nil}
 use Rattle.cascade.specs.Sort.{sort}
 use Rattle.walk.proofs.WalkLaws.{rules_few}
 use Rattle.order.specs.Keys.{Key, key_le}

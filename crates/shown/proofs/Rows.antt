@@ -16,7 +16,7 @@ use Rattle.sheet.specs.Sheet.{Value}
 use Rattle.cascade.specs.Cascade.{Layers}
 use Rattle.cascade.specs.Clause.{star, default_name, layer_name}
 use Rattle.cascade.specs.Map.{keep, map_entry}
-use Rattle.cascade.specs.MapLaws.{keep_map}
+use Rattle.cascade.proofs.MapLaws.{keep_map}
 use Rattle.cascade.specs.Number.{whole}
 use Rattle.cascade.specs.Numbered.{spelled, map_layers}
 use Rattle.cascade.specs.Style as theory

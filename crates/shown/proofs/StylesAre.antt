@@ -18,7 +18,8 @@ use Rattle.entity.specs.declared.EntityRange.{EntityRange}
 use Rattle.sheet.specs.Sheet.{Rule, Value}
 use Rattle.cascade.specs.Clause.{default_name}
 use Rattle.cascade.specs.Map.{keep, map_entry}
-use Rattle.cascade.specs.Numbered.{map_rule, map_answer, map_layers, maps_mapped}
+use Rattle.cascade.specs.Numbered.{map_rule, map_answer, map_layers}
+use Rattle.cascade.proofs.NumberedLaws.{maps_mapped}
 use Rattle.cascade.specs.Style as theory
 use Rattle.cascade.specs.Style.{layer_tag, not_star, style_of, styles}
 use Rattle.cascade.specs.Walk.{Answer, refused, layers, property_maps}

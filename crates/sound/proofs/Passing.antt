@@ -13,7 +13,7 @@ use Rattle.base.specs.Table.{zero_float, capacity_of, padded}
 use Rattle.valid.specs.Valid.{rule_sound, selector_sound, test_sound, property_sound, all_below, entries_held, counts_held, entries_sound, tables_sound}
 use Rattle.valid.specs.declared.Counts.{Counts}
 use Rattle.grammar.specs.Capacity.{empty, tables_of}
-use Rattle.grammar.specs.CapacityLaws.{reading_takes}
+use Rattle.grammar.proofs.CapacityLaws.{reading_takes}
 use Rattle.grammar.specs.Entries.{entries_of}
 use Rattle.keep.specs.Encode.{add_rows, rows_of, lent_of}
 use Rattle.keep.specs.Lent.{lent_store}

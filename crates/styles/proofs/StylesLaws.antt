@@ -27,7 +27,7 @@ use Rattle.entity.specs.declared.SingleEntity.{SingleEntity}
 use Rattle.entity.specs.declared.SingleEntity.TheVariants.{BadEntity, OneEntity}
 use Rattle.cascade.specs.Clause.{star, default_name}
 use Rattle.cascade.specs.Map.{keep, and_map}
-use Rattle.cascade.specs.MapLaws.{keep_append}
+use Rattle.cascade.proofs.MapLaws.{keep_append}
 use Rattle.cascade.specs.Number.{as_integer, whole}
 use Rattle.cascade.specs.Style.{layer_tag}
 use Rattle.reader.specs.Elim.{on-TagValue}

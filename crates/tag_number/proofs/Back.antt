@@ -17,8 +17,8 @@ use Rattle.base.specs.Bytes.{Bytes}
 use Rattle.base.specs.Choice.{pick, by-test, and_left, and_right}
 use Rattle.cascade.specs.Number.{is_digit, spelt, signed, reads, value_of, tag_number}
 use Rattle.cascade.specs.NumberGrammar.{all_digits, Sign, absent, minus, Spells}
-use Rattle.cascade.specs.NumberGrammarProof.{spelt_reads}
-use Rattle.cascade.specs.NumberLaws.{neg_value, times_nearest}
+use Rattle.cascade.proofs.NumberGrammarProof.{spelt_reads}
+use Rattle.cascade.proofs.NumberLaws.{neg_value, times_nearest}
 use Rattle.sheet.specs.Digits.{has_minus, unsigned_of, size_of, is_whole, digits_in, natural_digits, digits_for}
 use Rattle.tag_number.specs.Grown.{decimal}
 use Rattle.digits.proofs.Wholes.{signed_float, whole_back}

@@ -7,7 +7,7 @@ use Rattle.base.specs.Choice.{different}
 use Rattle.color.specs.declared.Color.{Color}
 use Rattle.grammar.specs.Token.{Name, Sign, Token, import, identifier, string, color_ref, number, zoom_range, color, sign}
 use Rattle.grammar.specs.View.{is_sign, on_sign, on_import, on_identifier, on_string, on_color_ref, on_number, on_zoom_range, on_color}
-use Rattle.grammar.specs.ViewLaws.{test_holds, sign_holds, import_holds, identifier_holds, string_holds, color_ref_holds, number_holds, zoom_range_holds, color_holds}
+use Rattle.grammar.proofs.ViewLaws.{test_holds, sign_holds, import_holds, identifier_holds, string_holds, color_ref_holds, number_holds, zoom_range_holds, color_holds}
 use Rattle.grammar.specs.Input.{Entry, Store, over, Next, broken, end, token, Input, Answer, refused, read, on_next, on_option, after, keep}
 use Rattle.grammar.specs.Reader.{read_mandatory_token, expect_simple_token, read_identifier}
 use Rattle.grammar.specs.Stream.{Gives, here, ◌▸◌}

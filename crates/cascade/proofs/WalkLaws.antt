@@ -7,12 +7,12 @@ use Rattle.base.specs.Choice.{by-test}
 use Rattle.base.specs.Entity.{Entity}
 use Rattle.sheet.specs.Sheet.{Rule}
 use Rattle.cascade.specs.Map.{keep}
-use Rattle.cascade.specs.MapLaws.{keep_append}
+use Rattle.cascade.proofs.MapLaws.{keep_append}
 use Rattle.cascade.specs.Clause.{Clause, clauses}
 use Rattle.cascade.specs.Match.{applies, verdict}
-use Rattle.cascade.specs.MatchLaws.{by-verdict, verdict_unfit}
+use Rattle.cascade.proofs.MatchLaws.{by-verdict, verdict_unfit}
 use Rattle.cascade.specs.Cascade.{Layers, step, declared}
-use Rattle.cascade.specs.CascadeLaws.{cascade_is}
+use Rattle.cascade.proofs.CascadeLaws.{cascade_is}
 use Rattle.cascade.specs.Walk.{Answer, refused, layers, to_hit, crowded, admit, continue, walk, property_maps, matched, hits}
 
 module _ {A : Type 0} where

@@ -18,8 +18,8 @@ use Rattle.grammar.specs.Reader.{to_binary_string_test_type, to_binary_numeric_t
 use Rattle.grammar.specs.Grammar.{IsName, single, double, IsKey, named, quoted_key, quoted_double, IsEquality, eq, ne, IsComparison, lt, le, gt, ge, IsOperand, plain_operand, digits_operand, IsTest, there, true_tag, false_tag, missing, untrue, compared, measured, IsNumbers, last_number, more_numbers, IsDelta, zero_delta, some_delta, IsValue, one_word, two_words, a_string, a_color, reference, list, eval, IsProperties, closed, assign, HasParts, nothing, zooms, tested, class, layer, typed, IsSkipped, stop, over, IsRule, body, auxiliary, last_selector, selector_then, finish, a_rule, defined, dropped, imported}
 use Rattle.grammar.specs.Entries.{test_entries, tests_entries, numbers_entries, value_entries, properties_entries, selectors_entries, rule_entries, entries_of, tint}
 use Rattle.grammar.specs.Stream.{Gives, here, ◌▸◌, WholeTo, Sheet, Fueled}
-use Rattle.grammar.specs.Laws.{Puts, kept, ◌◂◌, uncons, split, unput, apart}
-use Rattle.grammar.specs.Sound.{added, added_is, ender, entries_append, reading_colors, rule_colors}
+use Rattle.grammar.proofs.Laws.{Puts, kept, ◌◂◌, uncons, split, unput, apart}
+use Rattle.grammar.proofs.Sound.{added, added_is, ender, entries_append, reading_colors, rule_colors}
 
 same_is : (a b : Bytes) → a ≡ b → same a b ≡ true
 same_is a b e = rw e (same_refl b)

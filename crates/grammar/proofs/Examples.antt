@@ -18,7 +18,7 @@ use Rattle.grammar.specs.Reader.{to_binary_string_test_type, to_binary_numeric_t
 use Rattle.grammar.specs.Entries.{count}
 use Rattle.grammar.specs.Capacity.{Tables, tables, empty, add, limited}
 use Rattle.grammar.specs.Texts.{Bundle, Place, Cursor, cursor, text_named, listed, read_bundle, HasReading, HasAll, HasNone}
-use Rattle.grammar.specs.TextsProof.{sound, accepts_all, accepts_none, has_all, has_none}
+use Rattle.grammar.proofs.TextsProof.{sound, accepts_all, accepts_none, has_all, has_none}
 use Rattle.grammar.specs.Spelling.{name, nought, black, tokens}
 
 -- ---- has, and has not

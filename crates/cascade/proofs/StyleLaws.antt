@@ -8,7 +8,7 @@ use Rattle.base.specs.Entity.{Entity}
 use Rattle.base.proofs.Compare.{same_refl, same_true}
 use Rattle.sheet.specs.Sheet.{Value}
 use Rattle.cascade.specs.Map.{keep, map_option}
-use Rattle.cascade.specs.MapLaws.{by_option, lookup_map}
+use Rattle.cascade.proofs.MapLaws.{by_option, lookup_map}
 use Rattle.cascade.specs.Clause.{star, default_name}
 use Rattle.cascade.specs.Cascade.{Layers}
 use Rattle.cascade.specs.Style.{Settings, width_of, width_or_zero, base_width, not_star, style_of, styles}

@@ -18,8 +18,8 @@ use Rattle.cascade.specs.Cascade.{Layers, reaches, receive, ensure, step}
 use Rattle.cascade.specs.Walk.{layers, crowded, walk, property_maps}
 use Rattle.cascade.specs.Style.{Settings, josm, casing_multiplier, as_number, as_delta, layer_tag, width_of, width_or_zero, base_width, casing_only, full_casing, style_from, styles}
 use Rattle.cascade.specs.Isolation.{has_one, strike, tested_keys, Agree, SameReach, SameStyle}
-use Rattle.cascade.specs.IsolationProof.{isolated, style_isolated}
-use Rattle.cascade.specs.Examples.{way_rule}
+use Rattle.cascade.proofs.IsolationProof.{isolated, style_isolated}
+use Rattle.cascade.proofs.Examples.{way_rule}
 
 abbrev casing : Bytes
 casing = ascii "casing"

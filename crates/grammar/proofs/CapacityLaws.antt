@@ -16,9 +16,9 @@ use Rattle.grammar.specs.Reader.{load}
 use Rattle.grammar.specs.Entries.{entries_of, one, count, tint, tints}
 use Rattle.grammar.specs.Capacity.{Tables, tables, empty, add, add_all, tables_of, taken, stores, room, limited, Bounded, Fits}
 use Rattle.grammar.specs.Stream.{WholeTo, Sheet, Fueled}
-use Rattle.grammar.specs.Laws.{Puts, kept, ◌◂◌}
-use Rattle.grammar.specs.Sound.{reading_tints, load_sound}
-use Rattle.grammar.specs.Complete.{load_complete}
+use Rattle.grammar.proofs.Laws.{Puts, kept, ◌◂◌}
+use Rattle.grammar.proofs.Sound.{reading_tints, load_sound}
+use Rattle.grammar.proofs.Complete.{load_complete}
 
 -- ---- counting
 

@@ -15,9 +15,9 @@ use Rattle.grammar.specs.Reading.{Test, Selector, Property, rule_item, Reading, 
 use Rattle.grammar.specs.Input.{Entry, rule_entry, selector_entry, test_entry, property_entry, number_entry, color_entry, full, Store, Next, broken, end, token, Input, over, Answer, refused, read, on_next, on_option, after, keep}
 use Rattle.grammar.specs.Reader.{to_binary_string_test_type, to_binary_numeric_test_type, width_increment, is_colors, read_mandatory_token, expect_simple_token, read_identifier, keep_test, read_operand, read_number, plain_test, bang_test, read_key, read_test, read_number_list, tokens_to_semi_colon, read_simple_eval, read_property_value, read_properties, read_parts, read_selector, skip_colors, keep_rule, read_rule, read_color_def, before, parse, import_file, load}
 use Rattle.grammar.specs.Stream.{Gives, here, ◌▸◌, Ample, Fueled}
-use Rattle.grammar.specs.Laws.{join, found, gives_over}
-use Rattle.grammar.specs.Sound.{test_reads, value_reads, selector_reads, rule_reads, color_reads}
-use Rattle.grammar.specs.Complete.{rule_long}
+use Rattle.grammar.proofs.Laws.{join, found, gives_over}
+use Rattle.grammar.proofs.Sound.{test_reads, value_reads, selector_reads, rule_reads, color_reads}
+use Rattle.grammar.proofs.Complete.{rule_long}
 use Rattle.grammar.specs.Alike.{Alike, both_refused, both_read, BothPut, both_full, both_take, Proper, Stands, TokensGenuine, LoadsAlike}
 
 module _ {C T U P R : Type 0} (i : Input C T P R) (g : C → ℕ) (z : Store U) (Genuine : Name → Type 0)

@@ -10,10 +10,10 @@ use Rattle.grammar.specs.Input.{Input, Store, over, Answer, read}
 use Rattle.grammar.specs.Grammar.{IsSheet, finish, a_rule, defined, dropped, imported}
 use Rattle.grammar.specs.Capacity.{Tables, empty, tables_of, limited, stores}
 use Rattle.grammar.specs.Stream.{Sheet}
-use Rattle.grammar.specs.Laws.{gives_over, gives_back}
+use Rattle.grammar.proofs.Laws.{gives_over, gives_back}
 use Rattle.grammar.specs.Alike.{Alike, both_refused, both_read}
-use Rattle.grammar.specs.AlikeProof.{loads_alike}
-use Rattle.grammar.specs.CapacityLaws.{loaded, loads}
+use Rattle.grammar.proofs.AlikeProof.{loads_alike}
+use Rattle.grammar.proofs.CapacityLaws.{loaded, loads}
 use Rattle.grammar.specs.Accepted.{Accepted, Accepts, OneReading, StoredAlike, StoredAccepted, StoredAccepts}
 
 -- other words for the texts of the bundle

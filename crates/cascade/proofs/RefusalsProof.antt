@@ -13,14 +13,14 @@ use Rattle.base.specs.Entity.{Entity}
 use Rattle.base.proofs.Compare.{same_refl, same_true}
 use Rattle.sheet.specs.Sheet.{Rule}
 use Rattle.cascade.specs.Map.{overlay, firsts, keep}
-use Rattle.cascade.specs.MapLaws.{keys_overlay}
+use Rattle.cascade.proofs.MapLaws.{keys_overlay}
 use Rattle.cascade.specs.Clause.{Clause, clauses}
 use Rattle.cascade.specs.Match.{pass, fail, verdict}
-use Rattle.cascade.specs.MatchLaws.{by-verdict, out_reached, reached_out}
+use Rattle.cascade.proofs.MatchLaws.{by-verdict, out_reached, reached_out}
 use Rattle.cascade.specs.Cascade.{Hit, step, named, assigned, declared}
-use Rattle.cascade.specs.CascadeLaws.{step_declared, cascade_is, named_member}
+use Rattle.cascade.proofs.CascadeLaws.{step_declared, cascade_is, named_member}
 use Rattle.cascade.specs.Walk.{Answer, refused, layers, to_hit, crowded, walk, property_maps, hits}
-use Rattle.cascade.specs.WalkLaws.{hits_append, refused_layers, walk_hits, walk_append, maps_declared}
+use Rattle.cascade.proofs.WalkLaws.{hits_append, refused_layers, walk_hits, walk_append, maps_declared}
 use Rattle.cascade.specs.Refusals.{ManyNames, Cause, outside, layer33, name129, Refuses}
 
 module _ {A : Type 0} where

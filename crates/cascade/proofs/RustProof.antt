@@ -12,15 +12,15 @@ use Rattle.base.specs.Entity.{Entity}
 use Rattle.base.proofs.Compare.{same_true, same_sym}
 use Rattle.sheet.specs.Sheet.{NumericTest, Test, unary, text, numeric, Selector, Rule}
 use Rattle.cascade.specs.Map.{keep, All, and_map, DistinctKeys}
-use Rattle.cascade.specs.MapLaws.{distinct_snoc}
+use Rattle.cascade.proofs.MapLaws.{distinct_snoc}
 use Rattle.cascade.specs.Clause.{star, layer_name, Clause, clause, clauses}
 use Rattle.cascade.specs.Number.{TagNumber, reads, malformed, out_of_range, tag_number}
 use Rattle.cascade.specs.Match.{Verdict, pass, fail, out, of_bool, tag, test_key, unary_holds, text_holds, compares, number_verdict, numeric_verdict, test_verdict, verdict_on, and_then, applies, tests_verdict, verdict}
-use Rattle.cascade.specs.MatchLaws.{by-verdict}
+use Rattle.cascade.proofs.MatchLaws.{by-verdict}
 use Rattle.cascade.specs.Cascade.{Hit, Layers, reaches, receive, ensure, touch, step}
-use Rattle.cascade.specs.CascadeLaws.{cascade_is}
+use Rattle.cascade.proofs.CascadeLaws.{cascade_is}
 use Rattle.cascade.specs.Walk.{layers, is_pass, to_hit, walk, property_maps, hits}
-use Rattle.cascade.specs.WalkLaws.{maps_declared, hits_append, admitted, refused_layers}
+use Rattle.cascade.proofs.WalkLaws.{maps_declared, hits_append, admitted, refused_layers}
 use Rattle.cascade.specs.Rust.{add_layer, update_entry, update_layer, update_other, rust_step, Parses, parsed_holds, matches_by_tags, all_match, area_matches, style_rule, style_area}
 
 module _ {A : Type 0} where

@@ -8,7 +8,7 @@ use Rattle.base.specs.Bytes.{Bytes, same}
 use Rattle.base.specs.Choice.{by-test, or_left, or_right}
 use Rattle.base.specs.Map.{Map, Entry, entry, key_of, lookup, member}
 use Rattle.cascade.specs.Map.{insert, overlay, add, keep}
-use Rattle.cascade.specs.MapLaws.{lookup_tabulate, member_firsts}
+use Rattle.cascade.proofs.MapLaws.{lookup_tabulate, member_firsts}
 use Rattle.cascade.specs.Clause.{star}
 use Rattle.cascade.specs.Cascade.{Hit, Layers, layer_of, reaches, receive, ensure, step, named, assignments, assigned, declared}
 

@@ -13,11 +13,11 @@ use Rattle.grammar.specs.Input.{Entry, Reason, Input, token, end, Answer, refuse
 use Rattle.grammar.specs.Entries.{entries_of, tint}
 use Rattle.grammar.specs.Capacity.{Tables, empty, add, add_all, tables_of, endless}
 use Rattle.grammar.specs.Stream.{Gives, here, ◌▸◌, WholeTo, Whole}
-use Rattle.grammar.specs.Laws.{Puts, kept, ◌◂◌}
-use Rattle.grammar.specs.Sound.{load_sound}
-use Rattle.grammar.specs.Complete.{load_complete}
-use Rattle.grammar.specs.CapacityLaws.{add_tints}
-use Rattle.grammar.specs.AcceptedProof.{retold}
+use Rattle.grammar.proofs.Laws.{Puts, kept, ◌◂◌}
+use Rattle.grammar.proofs.Sound.{load_sound}
+use Rattle.grammar.proofs.Complete.{load_complete}
+use Rattle.grammar.proofs.CapacityLaws.{add_tints}
+use Rattle.grammar.proofs.AcceptedProof.{retold}
 use Rattle.grammar.specs.Texts.{Bundle, Place, Cursor, cursor, next_from, text_named, listed, read_bundle, HasReading, was_read, accepts, HasAll, HasNone}
 
 module _ (countable : Float → Bool) (b : Bundle) where

@@ -11,8 +11,8 @@ use Rattle.cascade.specs.Match.{fits_type, applies, tests_verdict, verdict}
 use Rattle.cascade.specs.Cascade.{Layers, reaches, receive, ensure, step}
 use Rattle.cascade.specs.Walk.{layers, crowded, walk, property_maps}
 use Rattle.cascade.specs.Meaning.{Meaning}
-use Rattle.cascade.specs.MeaningProof.{demand_2, meaning_one}
-use Rattle.cascade.specs.Examples.{way_rule, open_way}
+use Rattle.cascade.proofs.MeaningProof.{demand_2, meaning_one}
+use Rattle.cascade.proofs.Examples.{way_rule, open_way}
 
 abbrev width : ℕ → Entry ℕ
 width n = entry (ascii "width") n

@@ -12,14 +12,14 @@ use Rattle.color.specs.declared.Color.{Color}
 use Rattle.sheet.specs.Sheet.{ObjectType, TextTest, NumericTest}
 use Rattle.grammar.specs.Token.{Name, joined, Sign, Token, import, identifier, string, color_ref, number, zoom_range, color, sign, left_paren, right_paren, left_bracket, right_bracket, left_brace, right_brace, equal_sign, not_equal_sign, less_sign, greater_sign, less_or_equal_sign, greater_or_equal_sign, bang, question_mark, colon, double_colon, semi_colon, comma}
 use Rattle.grammar.specs.View.{on_identifier, on_color, color_of}
-use Rattle.grammar.specs.ViewLaws.{test_holds, sign_holds, identifier_holds, string_holds, number_holds}
+use Rattle.grammar.proofs.ViewLaws.{test_holds, sign_holds, identifier_holds, string_holds, number_holds}
 use Rattle.grammar.specs.Reading.{Test, unary, text, numeric, plain, digits, Value, word, quoted, colored, numbers, width_delta, Selector, Property, Rule, rule_item, color_item, Reading, Colors, define, color_named, colors_after, bare, with_zoom, with_test, with_layer, id_to_object_type}
 use Rattle.grammar.specs.Input.{Entry, rule_entry, selector_entry, property_entry, color_entry, token, Input, Answer, read, on_option, keep}
 use Rattle.grammar.specs.Reader.{to_binary_string_test_type, to_binary_numeric_test_type, want, want_word, want_string, suffix, width_increment, is_colors, read_operand, read_number, plain_test, bang_test, read_key, read_test, read_number_list, tokens_to_semi_colon, read_simple_eval, read_property_value, read_properties, read_parts, read_selector, skip_colors, read_rule, definition, keep_color, read_color_def, parse, import_file, load}
 use Rattle.grammar.specs.Grammar.{IsName, single, double, IsKey, named, quoted_key, quoted_double, IsEquality, eq, ne, IsComparison, lt, le, gt, ge, plain_operand, digits_operand, IsTest, there, true_tag, false_tag, missing, untrue, compared, measured, IsNumbers, last_number, more_numbers, IsDelta, zero_delta, some_delta, IsValue, one_word, two_words, a_string, a_color, reference, list, eval, IsProperties, closed, assign, HasParts, nothing, zooms, tested, class, layer, IsSelector, typed, IsSkipped, stop, over, IsRule, body, auxiliary, last_selector, selector_then, finish, a_rule, defined, dropped, imported}
 use Rattle.grammar.specs.Entries.{test_entries, tests_entries, numbers_entries, value_entries, properties_entries, selectors_entries, rule_entries, entries_of, tint, tints}
 use Rattle.grammar.specs.Stream.{Gives, here, ◌▸◌, WholeTo, TextOf, Sheet}
-use Rattle.grammar.specs.Laws.{Puts, kept, ◌◂◌, join, both, found, Phrase, Sound, refused_sound, read_sound, next_sound, option_sound, test_sound_lem, sign_sound, import_sound, identifier_sound, string_sound, color_ref_sound, number_sound, color_sound, zoom_sound, after_sound, token_sound, expect_sound, name_sound, keep_sound}
+use Rattle.grammar.proofs.Laws.{Puts, kept, ◌◂◌, join, both, found, Phrase, Sound, refused_sound, read_sound, next_sound, option_sound, test_sound_lem, sign_sound, import_sound, identifier_sound, string_sound, color_ref_sound, number_sound, color_sound, zoom_sound, after_sound, token_sound, expect_sound, name_sound, keep_sound}
 
 -- ---- what an option holds
 

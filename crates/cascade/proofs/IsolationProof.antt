@@ -11,16 +11,16 @@ use Rattle.base.specs.Map.{Entry, Map, lookup, member}
 use Rattle.base.specs.Entity.{Entity}
 use Rattle.sheet.specs.Sheet.{Selector, Rule, Value}
 use Rattle.cascade.specs.Map.{overlay, keep, map_option}
-use Rattle.cascade.specs.MapLaws.{by_option, keep_append, keep_map, keep_comm}
+use Rattle.cascade.proofs.MapLaws.{by_option, keep_append, keep_map, keep_comm}
 use Rattle.cascade.specs.Clause.{default_name, Clause, clause, clauses}
 use Rattle.cascade.specs.Match.{tag, test_key, verdict}
-use Rattle.cascade.specs.MatchLaws.{verdict_agree}
+use Rattle.cascade.proofs.MatchLaws.{verdict_agree}
 use Rattle.cascade.specs.Cascade.{Hit, Layers, layer_of, reaches, assignments}
-use Rattle.cascade.specs.CascadeLaws.{layer_declared, named_kept}
+use Rattle.cascade.proofs.CascadeLaws.{layer_declared, named_kept}
 use Rattle.cascade.specs.Walk.{layers, is_pass, to_hit, property_maps, matched, hits}
-use Rattle.cascade.specs.WalkLaws.{maps_declared}
+use Rattle.cascade.proofs.WalkLaws.{maps_declared}
 use Rattle.cascade.specs.Style.{style_of}
-use Rattle.cascade.specs.StyleLaws.{style_is, base_alike}
+use Rattle.cascade.proofs.StyleLaws.{style_is, base_alike}
 use Rattle.cascade.specs.Isolation.{of_layer, strike_selectors, has_one, strike, tested_keys, Agree, Isolated, StyleIsolated}
 
 abbrev clause_in : {A : Type 0} → Bytes → Clause A → Bool

@@ -11,14 +11,14 @@ use Rattle.base.specs.Entity.{Entity}
 use Rattle.base.proofs.Compare.{same_refl, same_true}
 use Rattle.sheet.specs.Sheet.{Rule}
 use Rattle.cascade.specs.Map.{overlay, last_of, keep}
-use Rattle.cascade.specs.MapLaws.{by_option, lookup_overlay, keys_overlay, last_absent, last_at, distinct_firsts, map_ext}
+use Rattle.cascade.proofs.MapLaws.{by_option, lookup_overlay, keys_overlay, last_absent, last_at, distinct_firsts, map_ext}
 use Rattle.cascade.specs.Clause.{Clause, clauses, layer_name}
 use Rattle.cascade.specs.Match.{pass, present, verdict}
-use Rattle.cascade.specs.MatchLaws.{by-verdict}
+use Rattle.cascade.proofs.MatchLaws.{by-verdict}
 use Rattle.cascade.specs.Cascade.{Hit, Layers, layer_of, named, assigned, declared}
-use Rattle.cascade.specs.CascadeLaws.{keys_declared, layer_declared}
+use Rattle.cascade.proofs.CascadeLaws.{keys_declared, layer_declared}
 use Rattle.cascade.specs.Walk.{hits}
-use Rattle.cascade.specs.WalkLaws.{maps_declared}
+use Rattle.cascade.proofs.WalkLaws.{maps_declared}
 use Rattle.cascade.specs.Meaning.{Last, never, last, Named, Meaning, Demand2}
 
 -- ---- the last assignment

@@ -15,7 +15,7 @@ use Rattle.sheet.specs.Sheet.{Rule}
 use Rattle.cascade.specs.Map.{insert, overlay}
 use Rattle.cascade.specs.Clause.{star, Clause, clauses}
 use Rattle.cascade.specs.Match.{verdict}
-use Rattle.cascade.specs.MatchLaws.{by-verdict}
+use Rattle.cascade.proofs.MatchLaws.{by-verdict}
 use Rattle.cascade.specs.Cascade.{Hit, Layers, reaches, receive, ensure, touch, step}
 use Rattle.cascade.specs.Walk.{refused, layers, to_hit, crowded, admit, continue, walk, property_maps}
 use Rattle.cascade.specs.Fine.{hit, fill, fine_step, fine_walk, fine_property_maps}

@@ -24,9 +24,9 @@ use Rattle.cascade.specs.Cascade.{Layers}
 use Rattle.cascade.specs.Walk.{Answer, refused, layers, property_maps}
 use Rattle.cascade.specs.Style.{Style, Settings, styles}
 use Rattle.cascade.specs.Order.{TotalPreorder, int_le, bool_le, float_le}
-use Rattle.cascade.specs.OrderLaws.{by_key, and_then, nat_order, int_order, bool_order, float_order, lt_asym}
+use Rattle.cascade.proofs.OrderLaws.{by_key, and_then, nat_order, int_order, bool_order, float_order, lt_asym}
 use Rattle.cascade.specs.Sort.{sort, merge, tied}
-use Rattle.cascade.specs.SortLaws.{sort_permutes, sort_sorted, sort_stable, stable_one, merge_sort, all_sort, sort_alike, merge_alike}
+use Rattle.cascade.proofs.SortLaws.{sort_permutes, sort_sorted, sort_stable, stable_one, merge_sort, all_sort, sort_alike, merge_alike}
 use Rattle.cascade.specs.Draw.{Drawn, Drawing, declined, entries, layer_rank, fill_rank, z_rank, id_rank, not_after, some_nan, drawn_from, entity_drawing, join, stream, style_entities, style_areas, Ordered, Declines}
 use Rattle.cascade.specs.RustDraw.{same_int, compare_int, compare_bool, compare_float, fill, compare_styled, not_greater, rust_entities, rust_areas}
 

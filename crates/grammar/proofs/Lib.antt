@@ -1,0 +1,11 @@
+pub mod ViewLaws
+pub mod Laws
+pub mod Sound
+pub mod Complete
+pub mod CapacityLaws
+pub mod CountsLaws
+pub mod SpelledProof
+pub mod AlikeProof
+pub mod AcceptedProof
+pub mod TextsProof
+pub mod Examples
