@@ -1,0 +1,23 @@
+use Rattle.keep.specs.Answers.{Reads}
+use Rattle.properties.specs.Answers.{at_properties}
+use Rattle.keep.specs.Lent.{Lent, colors_of}
+use Rattle.keep.specs.Source.{reading}
+use Prim.Native.Nat.{ℕ, ◌<◌}
+use mathlib.Core.Path.{◌≡◌}
+use lib.ListN.{length}
+use Rattle.input.specs.Source.{spot}
+use Rattle.input.specs.Text.{left}
+use Rattle.grammar.specs.Reader.{read_properties}
+use Rattle.properties.proofs.Turns.{Goes}
+use Rattle.properties.proofs.read_properties.Given as goal
+
+abbrev pub invariant-loop-e : goal.invariant-loop-e
+invariant-loop-e l = ((τ : Lent) (f : ℕ)
+    → left l.bundle l.source l.initial.at < f
+    → Goes (Reads l.bundle l.source) l.bundle l.source (left l.bundle l.source l.initial.at)
+    (read_properties (reading l.bundle) f (colors_of l.bundle l.initial.properties l.initial.numbers) (spot l.source l.initial.at) (at_properties τ l.colors l.known l.initial.k)) l.at
+    (λ f. read_properties (reading l.bundle) f (colors_of l.bundle l.initial.properties l.initial.numbers) (spot l.source l.at) (at_properties τ l.properties l.numbers l.k)))
+    × ((length l.properties ≡ length l.colors) × (length l.numbers ≡ length l.known))
+
+abbrev pub decreases-loop-e : goal.decreases-loop-e
+decreases-loop-e l = left l.bundle l.source l.at

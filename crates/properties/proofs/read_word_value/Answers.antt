@@ -1,0 +1,28 @@
+use mathlib.Core.Path.{refl}
+use native.Mathlib.Omega.{arith}
+use mathlib.Core.List.{[], ◌∷◌}
+use Rattle.base.specs.Choice.{via}
+use Rattle.input.proofs.TokenLaws.{not_sign}
+use Rattle.keep.proofs.Laws.{no_token, got, got_as, no_way}
+use Rattle.properties.specs.Answers.{Values, bad_value, good_value}
+use Rattle.grammar.specs.View.{is_sign}
+use Rattle.input.specs.Text.{token_of}
+use Rattle.grammar.specs.Token.{colon, semi_colon}
+use Rattle.properties.proofs.ValueLaws.{widen_value}
+use borrow.Enum.Refused.{opened}
+use Rattle.properties.proofs.read_word_value.Goals as goal
+
+pub returns-in-NoToken : goal.returns-in-NoToken
+unfolding token_of is_sign
+returns-in-NoToken c = λ τ. no_token (Values _ _ _ _ _) _ _ _ _ _ (via c.read_mandatory_token.ensures c.in-NoToken.is) (bad_value refl)
+
+pub returns-in-Colon : goal.returns-in-Colon
+unfolding token_of is_sign
+returns-in-Colon c = λ τ. got_as (Values _ _ _ _ _) _ _ _ _ _ (via c.read_mandatory_token.ensures c.in-Got.is) c.in-Colon.is (λ m1. widen_value (omega arith) (c.read_joined_value.ensures τ))
+
+pub returns-in-SemiColon : goal.returns-in-SemiColon
+unfolding token_of is_sign
+returns-in-SemiColon c = λ τ. got_as (Values _ _ _ _ _) _ _ _ _ _ (via c.read_mandatory_token.ensures c.in-Got.is) c.in-SemiColon.is (λ m1. good_value _ _ (omega arith) refl)
+
+pub returns-in_default : goal.returns-in_default
+returns-in_default c = λ τ. got (Values _ _ _ _ _) _ _ _ _ _ (via c.read_mandatory_token.ensures c.in-Got.is) (λ m1. no_way (Values _ _ _ _ _) _ _ _ (not_sign _ (22 ∷ 24 ∷ []) _ (opened c.in_default.in_default-own.keys3) colon tt) (no_way (Values _ _ _ _ _) _ _ _ (not_sign _ (22 ∷ 24 ∷ []) _ (opened c.in_default.in_default-own.keys3) semi_colon tt) (bad_value c.refuse.ensures)))
