@@ -15,9 +15,9 @@ abbrev pub invariant-loop-e : goal.invariant-loop-e
 invariant-loop-e l = ((τ : Lent) (f : ℕ)
     → left l.bundle l.source l.initial.at < f
     → Goes (Reads l.bundle l.source) l.bundle l.source (left l.bundle l.source l.initial.at)
-    (read_properties (reading l.bundle) f (colors_of l.bundle l.initial.properties l.initial.numbers) (spot l.source l.initial.at) (at_properties τ l.colors l.known l.initial.k)) l.at
-    (λ f. read_properties (reading l.bundle) f (colors_of l.bundle l.initial.properties l.initial.numbers) (spot l.source l.at) (at_properties τ l.properties l.numbers l.k)))
-    × ((length l.properties ≡ length l.colors) × (length l.numbers ≡ length l.known))
+    (read_properties (reading l.bundle) f (colors_of l.bundle l.colors l.known) (spot l.source l.initial.at) (at_properties τ l.initial.properties l.initial.numbers l.initial.k)) l.at
+    (λ f. read_properties (reading l.bundle) f (colors_of l.bundle l.colors l.known) (spot l.source l.at) (at_properties τ l.properties l.numbers l.k)))
+    × ((length l.properties ≡ length l.initial.properties) × (length l.numbers ≡ length l.initial.numbers))
 
 abbrev pub decreases-loop-e : goal.decreases-loop-e
 decreases-loop-e l = left l.bundle l.source l.at
