@@ -1,0 +1,14 @@
+use native.Mathlib.Omega.{arith}
+use mathlib.Core.List.{[]}
+use Rattle.keep.proofs.Laws.{widen}
+use Rattle.keep.specs.Answers.{Reads, refuses}
+use Rattle.rules.specs.Rules.{at_body}
+use Rattle.rules.proofs.RuleLaws.{after_unskipped, after_skipped}
+use borrow.Author.Rules.{rules}
+use Rattle.rules.proofs.read_block.Goals as goal
+
+pub returns-in-Another : goal.returns-in-Another
+returns-in-Another c = λ τ k h. after_unskipped (Reads _ _ _ _ _) _ (c.skip_colors.ensures (at_body τ c.args.rules.now τ.properties τ.numbers c.args.n) k h) c.in-Another.is (λ e τ p. refuses p)
+
+pub returns-in-Beyond : goal.returns-in-Beyond
+returns-in-Beyond c = λ τ k h. after_skipped (Reads _ _ _ _ _) _ (c.skip_colors.ensures (at_body τ c.args.rules.now τ.properties τ.numbers c.args.n) k h) c.in-Beyond.is (λ l. widen (omega arith) (c.store_rule.ensures c.args.bundle.now τ [] []))
