@@ -1,0 +1,24 @@
+use Rattle.sheets.specs.Sheets.{at_colors}
+use Rattle.sheets.proofs.SheetLaws.{no_room_color, room_color, defined_as, no_definition}
+use Rattle.keep.specs.Answers.{Reads, refuses, done}
+use Rattle.input.specs.Text.{token_of, name_in}
+use Rattle.input.specs.Source.{spot}
+use Rattle.grammar.specs.Reader.{definition}
+use Rattle.grammar.specs.Input.{read, on_option}
+use Rattle.grammar.specs.View.{on_color, color_of}
+use Rattle.base.specs.Choice.{via_with}
+use mathlib.Core.List.{[], ◌∷◌}
+use native.Mathlib.Omega.{arith}
+use borrow.Enum.Refused.{opened}
+use Rattle.sheets.proofs.store_definition.Goals as goal
+
+pub returns-in-NoRoom : goal.returns-in-NoRoom
+unfolding token_of color_of on_color on_option
+returns-in-NoRoom c = λ τ. defined_as (Reads _ _ _ _ _) c.args.bundle.now c.args.source c.args.name c.args.c _ (λ t τ. read (definition (name_in c.args.bundle.now c.args.name) t) (spot c.args.source c.args.c) τ) c.in-Color.is (no_room_color (Reads _ _ _ _ _) c.args.bundle.now c.args.source c.args.name c.in-Color.x c.args.c _ _ (via_with c.keep_color.ensures c.in-NoRoom.is) (refuses c.refuse_reached.ensures))
+
+pub returns-in-Stored : goal.returns-in-Stored
+unfolding token_of color_of on_color on_option
+returns-in-Stored c = λ τ. defined_as (Reads _ _ _ _ _) c.args.bundle.now c.args.source c.args.name c.args.c _ (λ t τ. read (definition (name_in c.args.bundle.now c.args.name) t) (spot c.args.source c.args.c) τ) c.in-Color.is (room_color (Reads _ _ _ _ _) c.args.bundle.now c.args.source c.args.name c.in-Color.x c.args.c _ _ (via_with c.keep_color.ensures c.in-Stored.is) (done _ (omega arith)))
+
+pub returns-in_default : goal.returns-in_default
+returns-in_default c = λ τ. no_definition (Reads _ _ _ _ _) c.args.bundle.now c.args.source (6 ∷ []) c.args.t c.args.name c.args.c (at_colors τ c.args.colors.now c.args.n) (λ τ. read (definition (name_in c.args.bundle.now c.args.name) (token_of c.args.bundle.now c.args.t)) (spot c.args.source c.args.c) τ) (opened c.in_default.in_default-own.keys2) tt (done _ (omega arith))

@@ -1,0 +1,14 @@
+use Prim.Native.Nat.{◌≤◌, ◌-◌}
+use mathlib.Core.Path.{◌≡◌}
+use lib.ListN.{length}
+use Rattle.decode.specs.Decode.{name_at, places}
+use Rattle.walk.specs.Run.{assign_all}
+use Rattle.walk.proofs.layers.assign_all.Given as goal
+
+abbrev pub invariant-loop-i : goal.invariant-loop-i
+invariant-loop-i l = (l.i ≤ l.m) × (length l.t ≡ 4323) ×
+    (assign_all (name_at l.bundle l.properties) l.t l.m l.i (l.m - l.i) (places l.from (l.to - l.from)) ≡ assign_all
+    (name_at l.bundle l.properties) l.initial.t l.m 0 l.m (places l.from (l.to - l.from)))
+
+abbrev pub decreases-loop-i : goal.decreases-loop-i
+decreases-loop-i l = l.m - l.i

@@ -1,0 +1,13 @@
+use Prim.Native.Nat.{◌≤◌, ◌+◌, ◌-◌}
+use mathlib.Core.Path.{◌≡◌}
+use lib.ListN.{length, drop}
+use Rattle.decode.specs.Decode.{name_at}
+use Rattle.walk.specs.Rows.{place_of}
+use Rattle.walk.proofs.names.find_name.Given as goal
+
+abbrev pub invariant-loop-i : goal.invariant-loop-i
+invariant-loop-i l = (l.i ≤ length l.row) ×
+    (place_of (name_at l.bundle l.properties) l.row l.name ≡ l.i + place_of (name_at l.bundle l.properties) (drop l.i l.row) l.name)
+
+abbrev pub decreases-loop-i : goal.decreases-loop-i
+decreases-loop-i l = length l.row - l.i

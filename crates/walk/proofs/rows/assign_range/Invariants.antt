@@ -1,0 +1,10 @@
+use Prim.Native.Nat.{◌-◌}
+use Rattle.decode.specs.Decode.{name_at}
+use Rattle.walk.proofs.RowLaws.{Filling}
+use Rattle.walk.proofs.rows.assign_range.Given as goal
+
+abbrev pub invariant-loop-p : goal.invariant-loop-p
+invariant-loop-p l = Filling (name_at l.bundle l.properties) l.initial.row l.count l.from l.to l.row l.n l.p
+
+abbrev pub decreases-loop-p : goal.decreases-loop-p
+decreases-loop-p l = l.to - l.p

@@ -1,0 +1,44 @@
+use Prim.Native.Nat.{◌-◌}
+use native.Mathlib.Omega.{arith}
+use mathlib.Core.Path.{sym, ◌∙◌, subst}
+use borrow.Author.Rules.{rules}
+use Rattle.walk.proofs.WalkLaws.{selectors_end, selectors_stop, selectors_next, rule_is}
+use Rattle.walk.specs.Run.{IsBounded}
+use Rattle.walk.proofs.walk_rule.Goals as goal
+
+pub loop-s-init : goal.loop-s-init
+loop-s-init c = let a = c.args in
+    let h = c.requires in (
+      h.2,
+      h.0,
+      rule_is _ _ _ a.rules.now a.t.now a.n a.r _ _ _ _ c.word_at-s.ensures
+          c.word_at-end.ensures c.word_at-from.ensures c.word_at-to.ensures,
+    )
+
+pub returns-in-Refused : goal.returns-in-Refused
+returns-in-Refused c = let loop = c.loop-s in record { t_after = sym
+          (selectors_stop _ _ _ loop.t loop.m loop.s
+          c.word_at-end.result
+          _
+          c.loop-s-test.true _ _
+          c.visit.ensures.t_after _ c.in-Refused.is)
+          ∙ loop.invariant.2; IsBounded = tt }
+
+pub loop-s-preserved : goal.loop-s-preserved
+loop-s-preserved c = let loop = c.loop-s in (
+      omega (arith, loop.invariant.0),
+      subst IsBounded c.in-Now.is c.visit.ensures.IsBounded,
+      sym
+          (selectors_next _ _ _ loop.t loop.m loop.s
+          c.word_at-end.result
+          _
+          c.loop-s-test.true _ _
+          c.visit.ensures.t_after _ c.in-Now.is)
+          ∙ loop.invariant.2,
+    )
+
+pub returns : goal.returns
+returns c = let loop = c.loop-s in record { t_after = sym
+          (selectors_end _ _ _ loop.t loop.m loop.s c.word_at-end.result _
+          c.loop-s-test.false)
+          ∙ loop.invariant.2; IsBounded = loop.invariant.1 }

@@ -1,0 +1,44 @@
+use Prim.Native.Nat.{◌-◌}
+use native.Mathlib.Omega.{arith}
+use mathlib.Core.Path.{sym, ◌∙◌, ap, subst}
+use borrow.Author.Rules.{rules}
+use Rattle.decode.specs.Decode.{name_at}
+use Rattle.walk.proofs.WalkLaws.{rules_end, rules_stop, rules_next}
+use Rattle.walk.proofs.LayerLaws.{less_zero}
+use Rattle.walk.specs.Selectors.{layer_in, verdict_in}
+use Rattle.walk.specs.Run.{rules_of, IsBounded}
+use Rattle.walk.proofs.walk_rules.Goals as goal
+
+pub loop-r-init : goal.loop-r-init
+loop-r-init c = let a = c.args in (
+      c.requires.1,
+      omega arith,
+      ap
+          (rules_of (name_at a.bundle.now a.properties.now) (layer_in a.bundle.now a.selectors.now)
+          (verdict_in a.bundle.now a.selectors.now a.tests.now a.numbers.now a.zoom a.entity.now
+          a.e) a.rules.now a.t.now 0 0) (less_zero a.total),
+    )
+
+pub returns-in-Refused : goal.returns-in-Refused
+returns-in-Refused c = let a = c.args in
+    let loop = c.loop-r in record { t_after = sym
+          (rules_stop _ _ _ a.rules.now loop.t loop.m loop.r a.total
+          c.loop-r-test.true _ _
+          c.walk_rule.ensures.t_after _ c.in-Refused.is)
+          ∙ loop.invariant.2; IsBounded = tt }
+
+pub loop-r-preserved : goal.loop-r-preserved
+loop-r-preserved c = let a = c.args in
+    let loop = c.loop-r in (
+      omega (arith, loop.invariant.0),
+      subst IsBounded c.in-Now.is c.walk_rule.ensures.IsBounded,
+      sym
+          (rules_next _ _ _ a.rules.now loop.t loop.m loop.r a.total
+          c.loop-r-test.true _ _
+          c.walk_rule.ensures.t_after _ c.in-Now.is)
+          ∙ loop.invariant.2,
+    )
+
+pub returns : goal.returns
+returns c = let a = c.args in
+    let loop = c.loop-r in record { t_after = sym (rules_end _ _ _ a.rules.now loop.t loop.m loop.r a.total c.loop-r-test.false) ∙ loop.invariant.2; IsBounded = loop.invariant.1 }
