@@ -1,0 +1,11 @@
+use Rattle.line.proofs.LineLaws.{layer_done}
+use Rattle.line.proofs.layer_line.Goals as goal
+
+pub returns : goal.returns
+returns c = let a =
+    c.args in
+    layer_done a.out.now a.bundle.now a.selectors.now a.maps.now a.i _
+    c.put_bytes-n.ensures
+    c.row_word.ensures
+    c.put_layer-m.ensures
+    c.put_byte.ensures
