@@ -3,26 +3,23 @@ use Rattle.style.proofs.property_map_to_style.Goals as goal
 
 pub returns : goal.returns
 unfolding style_at
-returns c = let line = c in
-    let fill = line.before.before.before.before.before.before.before.before.before in
-    let width = fill.before.before.before.before.before.before.before in
-    simp (
+returns c = simp (
       ← c.text_style.ensures,
       ← c.get_string-2.ensures,
       ← c.get_string.ensures,
       ← c.get_line_cap-2.ensures,
       ← c.get_dashes-2.ensures,
-      ← line.get-color4.ensures,
-      ← line.before.before.get-line-cap.ensures,
-      ← line.before.before.before.before.get-dashes.ensures,
-      ← line.before.before.before.before.before.before.get-color3.ensures,
-      ← line.before.before.before.before.before.before.before.before.is-foreground-fill.ensures,
-      ← fill.get-color2.ensures,
-      ← fill.before.before.get-color.ensures,
-      ← fill.before.before.before.before.z-index.ensures,
-      ← fill.before.before.before.before.before.casing-width.ensures,
-      ← fill.before.before.before.before.before.before.base-width.ensures,
-      ← width.get-num3.ensures,
-      ← width.before.before.get-num2.ensures,
-      ← width.before.before.before.before.get-num.ensures,
+      ← c.get_color-4.ensures,
+      ← c.get_line_cap.ensures,
+      ← c.get_dashes.ensures,
+      ← c.get_color-3.ensures,
+      ← c.is_foreground_fill.ensures,
+      ← c.get_color-2.ensures,
+      ← c.get_color.ensures,
+      ← c.z_index.ensures,
+      ← c.casing_width-casing.ensures,
+      ← c.base_width-base.ensures,
+      ← c.get_num-width.ensures,
+      ← c.get_num-fill_opacity.ensures,
+      ← c.get_num-opacity.ensures,
     )
