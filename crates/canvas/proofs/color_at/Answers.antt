@@ -1,0 +1,16 @@
+use Rattle.canvas.proofs.CanvasLaws.{color_named_lem, color_other}
+use Rattle.canvas.proofs.color_at.Goals as goal
+
+pub returns-then-same_bytes : goal.returns-then-same_bytes
+returns-then-same_bytes c = let a = c.args in
+    color_named_lem a.bundle.now a.properties.now a.numbers.now a.name.now a.p _ _
+    c.word_of.ensures
+    c.word_of-2.ensures _ c.part-named.ensures
+    _ c.same_bytes.ensures c.if-same_bytes.true _ _
+    c.property_value.ensures c.shade_of.ensures
+
+pub returns : goal.returns
+returns c = let a = c.args in
+    color_other a.bundle.now a.properties.now a.numbers.now a.name.now a.p _ _
+    c.word_of.ensures
+    c.word_of-2.ensures _ c.part-named.ensures _ c.same_bytes.ensures c.if-same_bytes.false

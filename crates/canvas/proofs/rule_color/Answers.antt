@@ -1,0 +1,17 @@
+use borrow.Author.Rules.{rules}
+use Rattle.canvas.proofs.CanvasLaws.{rule_canvas, rule_other}
+use Rattle.canvas.proofs.rule_color.Goals as goal
+
+pub returns-then-any_canvas : goal.returns-then-any_canvas
+returns-then-any_canvas c = let a = c.args in
+    rule_canvas a.bundle.now a.rules.now a.selectors.now a.properties.now a.numbers.now a.name.now a.r _ _
+    c.word_of.ensures
+    c.word_of-2.ensures _
+    c.any_canvas.ensures c.if-any_canvas.true _ _ _
+    c.word_of-then-any_canvas.ensures
+    c.word_of-then-any_canvas-2.ensures c.first_color.ensures
+
+pub returns : goal.returns
+returns c = let a = c.args in
+    rule_other a.bundle.now a.rules.now a.selectors.now a.properties.now a.numbers.now a.name.now a.r _ _
+    c.word_of.ensures c.word_of-2.ensures _ c.any_canvas.ensures c.if-any_canvas.false

@@ -1,0 +1,38 @@
+use Prim.Native.Nat.{◌-◌}
+use native.Mathlib.Omega.{arith}
+use mathlib.Core.Path.{◌∙◌}
+use borrow.Author.Rules.{rules}
+use Rattle.canvas.specs.Canvas.{or_color, rules_color}
+use Rattle.canvas.proofs.CanvasLaws.{all_left, rules_end, rules_step}
+use Rattle.canvas.proofs.rules_color.Goals as goal
+
+pub loop-r-init : goal.loop-r-init
+loop-r-init c = let a = c.args in
+    all_left
+    (rules_color a.bundle.now a.rules.now a.selectors.now a.properties.now a.numbers.now a.name.now)
+    a.total
+
+pub loop-r-smaller : goal.loop-r-smaller
+loop-r-smaller c = omega arith
+
+pub loop-r-preserved : goal.loop-r-preserved
+unfolding or_color
+loop-r-preserved c = let a = c.args in
+    rules_step a.bundle.now a.rules.now a.selectors.now a.properties.now a.numbers.now a.name.now a.total
+    c.loop-r.r c.loop-r-test.true _ _
+    c.rule_color.ensures c.in-Unknown.is
+    ∙ c.loop-r.invariant
+
+pub returns-in-Known : goal.returns-in-Known
+unfolding or_color
+returns-in-Known c = let a = c.args in
+    rules_step a.bundle.now a.rules.now a.selectors.now a.properties.now a.numbers.now a.name.now a.total
+    c.loop-r.r c.loop-r-test.true _ _
+    c.rule_color.ensures c.in-Known.is
+    ∙ c.loop-r.invariant
+
+pub returns : goal.returns
+returns c = let a = c.args in
+    rules_end a.bundle.now a.rules.now a.selectors.now a.properties.now a.numbers.now a.name.now a.total
+    c.loop-r.r c.loop-r-test.false
+    ∙ c.loop-r.invariant

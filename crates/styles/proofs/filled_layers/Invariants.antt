@@ -1,0 +1,9 @@
+use Prim.Native.Nat.{◌≤◌, ◌-◌}
+use Rattle.styles.proofs.StylesLaws.{StyledTo}
+use Rattle.styles.proofs.filled_layers.Given as goal
+
+abbrev pub invariant-loop-i : goal.invariant-loop-i
+invariant-loop-i l = (i ≤ l.n) × (l.n ≤ 32) × (l.i ≤ i) × StyledTo l.bundle l.selectors l.properties l.numbers l.maps l.n l.kind l.layer l.settings i l.i l.count
+
+abbrev pub decreases-loop-i : goal.decreases-loop-i
+decreases-loop-i l = l.n - i
