@@ -3,7 +3,7 @@ use Rattle.styles.proofs.StylesLaws.{StyledTo}
 use Rattle.styles.proofs.filled_layers.Given as goal
 
 abbrev pub invariant-loop-i : goal.invariant-loop-i
-invariant-loop-i l = (i ≤ l.n) × (l.n ≤ 32) × (l.i ≤ i) × StyledTo l.bundle l.selectors l.properties l.numbers l.maps l.n l.kind l.layer l.settings i l.i l.count
+invariant-loop-i l = (l.i ≤ l.n) × (l.n ≤ 32) × (l.count ≤ l.i) × StyledTo l.bundle l.selectors l.properties l.numbers l.maps l.n l.kind l.layer l.settings l.i l.count l.layers
 
 abbrev pub decreases-loop-i : goal.decreases-loop-i
-decreases-loop-i l = l.n - i
+decreases-loop-i l = l.n - l.i
