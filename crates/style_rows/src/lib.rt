@@ -46,12 +46,12 @@ fn clear_words(t: &mut [u64])
     }
 }
 
-fn clear_layers(layers: &mut [i64])
-    ensures { layers.new ≡ replicate (length layers.old) (pos 0) }
+fn clear_layers(t: &mut [i64])
+    ensures { t.new ≡ replicate (length t.old) (pos 0) }
 {
     let mut n = 0;
-    while n < layers.len() {
-        layers[n] = 0;
+    while n < t.len() {
+        t[n] = 0;
         n += 1;
     }
 }

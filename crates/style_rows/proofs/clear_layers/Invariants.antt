@@ -1,0 +1,11 @@
+use Prim.Native.Nat.{◌-◌}
+use lib.IntN.{pos}
+use lib.ListN.{length}
+use Rattle.base.proofs.Tables.{Cleared}
+use Rattle.style_rows.proofs.clear_layers.Given as goal
+
+abbrev pub invariant-loop-n : goal.invariant-loop-n
+invariant-loop-n l = Cleared (pos 0) l.initial.t l.t l.n
+
+abbrev pub decreases-loop-n : goal.decreases-loop-n
+decreases-loop-n l = length l.t - l.n
