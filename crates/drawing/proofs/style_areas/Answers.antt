@@ -25,13 +25,13 @@ gather-requires c = (omega arith, room_bound _ _ c.room_of-room.ensures, refl, r
 
 pub gather-requires-in-Now : goal.gather-requires-in-Now
 gather-requires-in-Now c = let r = c.room_of-room in (
-      subst (IsBounded r.result) c.in-Now.is
-          c.gather.ensures.IsBounded,
-      room_bound _ _ r.ensures,
-      c.gather.auto.layers,
-      c.gather.auto.zs,
-      c.gather.auto.words,
-    )
+  subst (IsBounded r.result) c.in-Now.is
+      c.gather.ensures.IsBounded,
+  room_bound _ _ r.ensures,
+  c.gather.auto.layers,
+  c.gather.auto.zs,
+  c.gather.auto.words,
+)
 
 pub write_list-requires : goal.write_list-requires
 write_list-requires c = let z =

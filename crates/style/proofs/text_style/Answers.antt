@@ -8,10 +8,10 @@ returns-in-NoText c = simp (c.in-NoText.is, ← c.get_string.ensures)
 pub returns-in-Shown : goal.returns-in-Shown
 unfolding text_style_of
 returns-in-Shown c = simp (
-      ← c.get_text_position.ensures,
-      ← c.get_color.ensures,
-      ← c.font_size-size.ensures,
-      ← c.get_num.ensures,
-      c.in-Shown.is,
-      ← c.get_string.ensures,
-    )
+  ← c.get_text_position.ensures,
+  ← c.get_color.ensures,
+  ← c.font_size-size.ensures,
+  ← c.get_num.ensures,
+  c.in-Shown.is,
+  ← c.get_string.ensures,
+)

@@ -7,27 +7,27 @@ use Rattle.style_rows.proofs.store_scalars.Goals as goal
 
 pub overflow_add-at-7 : goal.overflow_add-at-7
 overflow_add-at-7 c = omega (
-      arith,
-      c.requires,
-    )
+  arith,
+  c.requires,
+)
 
 pub overflow_add-at-8 : goal.overflow_add-at-8
 overflow_add-at-8 c = omega (
-      arith,
-      c.requires,
-    )
+  arith,
+  c.requires,
+)
 
 pub overflow_add-at-9 : goal.overflow_add-at-9
 overflow_add-at-9 c = omega (
-      arith,
-      c.requires,
-    )
+  arith,
+  c.requires,
+)
 
 pub overflow_add-at-10 : goal.overflow_add-at-10
 overflow_add-at-10 c = omega (
-      arith,
-      c.requires,
-    )
+  arith,
+  c.requires,
+)
 
 pub returns : goal.returns
 unfolding scalars

@@ -4,33 +4,33 @@ use Rattle.style_rows.proofs.store_words.Goals as goal
 
 pub store_text-requires : goal.store_text-requires
 store_text-requires c = omega (
-      arith,
-      c.requires,
-    )
+  arith,
+  c.requires,
+)
 
 pub overflow_add-at-9 : goal.overflow_add-at-9
 overflow_add-at-9 c = omega (
-      arith,
-      c.requires,
-    )
+  arith,
+  c.requires,
+)
 
 pub store_text-requires-2 : goal.store_text-requires-2
 store_text-requires-2 c = omega (
-      arith,
-      c.requires,
-    )
+  arith,
+  c.requires,
+)
 
 pub overflow_add-at-10 : goal.overflow_add-at-10
 overflow_add-at-10 c = omega (
-      arith,
-      c.requires,
-    )
+  arith,
+  c.requires,
+)
 
 pub store_text-requires-3 : goal.store_text-requires-3
 store_text-requires-3 c = omega (
-      arith,
-      c.requires,
-    )
+  arith,
+  c.requires,
+)
 
 pub returns : goal.returns
 returns c = let a =

@@ -5,9 +5,12 @@ use mathlib.Core.Path.{subst}
 use Rattle.walk.proofs.finish_maps.Goals as goal
 
 pub returns-in-Refused : goal.returns-in-Refused
-returns-in-Refused c = let a = c.args in record { t_after = finish_refused a.multipolygons a.place _ a.t.now _ _ _
-          c.in-Refused.is c.of_entity.ensures
-          (zeroed (length a.t.now) _ c.zero_words.ensures c.requires.0); few = tt }
+returns-in-Refused c = let a = c.args in record {
+  t_after = finish_refused a.multipolygons a.place _ a.t.now _ _ _
+      c.in-Refused.is c.of_entity.ensures
+      (zeroed (length a.t.now) _ c.zero_words.ensures c.requires.0);
+  few = tt;
+}
 
 pub returns-in-Now : goal.returns-in-Now
 returns-in-Now c = let a = c.args in

@@ -16,29 +16,35 @@ loop-s-init c = let a = c.args in
     )
 
 pub returns-in-Refused : goal.returns-in-Refused
-returns-in-Refused c = let loop = c.loop-s in record { t_after = sym
-          (selectors_stop _ _ _ loop.t loop.m loop.s
-          c.word_at-end.result
-          _
-          c.loop-s-test.true _ _
-          c.visit.ensures.t_after _ c.in-Refused.is)
-          ∙ loop.invariant.2; IsBounded = tt }
+returns-in-Refused c = let loop = c.loop-s in record {
+  t_after = sym
+      (selectors_stop _ _ _ loop.t loop.m loop.s
+      c.word_at-end.result
+      _
+      c.loop-s-test.true _ _
+      c.visit.ensures.t_after _ c.in-Refused.is)
+      ∙ loop.invariant.2;
+  IsBounded = tt;
+}
 
 pub loop-s-preserved : goal.loop-s-preserved
 loop-s-preserved c = let loop = c.loop-s in (
-      omega (arith, loop.invariant.0),
-      subst IsBounded c.in-Now.is c.visit.ensures.IsBounded,
-      sym
-          (selectors_next _ _ _ loop.t loop.m loop.s
-          c.word_at-end.result
-          _
-          c.loop-s-test.true _ _
-          c.visit.ensures.t_after _ c.in-Now.is)
-          ∙ loop.invariant.2,
-    )
+  omega (arith, loop.invariant.0),
+  subst IsBounded c.in-Now.is c.visit.ensures.IsBounded,
+  sym
+      (selectors_next _ _ _ loop.t loop.m loop.s
+      c.word_at-end.result
+      _
+      c.loop-s-test.true _ _
+      c.visit.ensures.t_after _ c.in-Now.is)
+      ∙ loop.invariant.2,
+)
 
 pub returns : goal.returns
-returns c = let loop = c.loop-s in record { t_after = sym
-          (selectors_end _ _ _ loop.t loop.m loop.s c.word_at-end.result _
-          c.loop-s-test.false)
-          ∙ loop.invariant.2; IsBounded = loop.invariant.1 }
+returns c = let loop = c.loop-s in record {
+  t_after = sym
+      (selectors_end _ _ _ loop.t loop.m loop.s c.word_at-end.result _
+      c.loop-s-test.false)
+      ∙ loop.invariant.2;
+  IsBounded = loop.invariant.1;
+}

@@ -11,21 +11,24 @@ use Rattle.walk.proofs.walk_rules.Goals as goal
 
 pub loop-r-init : goal.loop-r-init
 loop-r-init c = let a = c.args in (
-      c.requires.1,
-      omega arith,
-      ap
-          (rules_of (name_at a.bundle.now a.properties.now) (layer_in a.bundle.now a.selectors.now)
-          (verdict_in a.bundle.now a.selectors.now a.tests.now a.numbers.now a.zoom a.entity.now
-          a.e) a.rules.now a.t.now 0 0) (less_zero a.total),
-    )
+  c.requires.1,
+  omega arith,
+  ap
+      (rules_of (name_at a.bundle.now a.properties.now) (layer_in a.bundle.now a.selectors.now)
+      (verdict_in a.bundle.now a.selectors.now a.tests.now a.numbers.now a.zoom a.entity.now
+      a.e) a.rules.now a.t.now 0 0) (less_zero a.total),
+)
 
 pub returns-in-Refused : goal.returns-in-Refused
 returns-in-Refused c = let a = c.args in
-    let loop = c.loop-r in record { t_after = sym
+    let loop = c.loop-r in record {
+      t_after = sym
           (rules_stop _ _ _ a.rules.now loop.t loop.m loop.r a.total
           c.loop-r-test.true _ _
           c.walk_rule.ensures.t_after _ c.in-Refused.is)
-          ∙ loop.invariant.2; IsBounded = tt }
+          ∙ loop.invariant.2;
+      IsBounded = tt;
+    }
 
 pub loop-r-preserved : goal.loop-r-preserved
 loop-r-preserved c = let a = c.args in

@@ -23,19 +23,25 @@ loop-r-init c = let a = c.args in
 
 pub returns-in-BadNext : goal.returns-in-BadNext
 returns-in-BadNext c = let a = c.args in
-    let l = c.loop-r in record { words_after = gather_bad a.bundle.now a.rules.now a.selectors.now a.tests.now a.properties.now
+    let l = c.loop-r in record {
+      words_after = gather_bad a.bundle.now a.rules.now a.selectors.now a.tests.now a.properties.now
           a.numbers.now a.total a.zoom
           a.for_labels a.room a.sort a.multipolygons a.s.now (keys_at a.layers.now a.zs.now a.words.now a.n)
           l.at l.place (keys_at l.layers l.zs l.words l.m) l.invariant.6 _
-          c.next_entity.ensures _ c.in-BadNext.is; IsBounded = tt }
+          c.next_entity.ensures _ c.in-BadNext.is;
+      IsBounded = tt;
+    }
 
 pub returns-in-NoMore : goal.returns-in-NoMore
 returns-in-NoMore c = let a = c.args in
-    let l = c.loop-r in record { words_after = gather_end a.bundle.now a.rules.now a.selectors.now a.tests.now a.properties.now
+    let l = c.loop-r in record {
+      words_after = gather_end a.bundle.now a.rules.now a.selectors.now a.tests.now a.properties.now
           a.numbers.now a.total a.zoom
           a.for_labels a.room a.sort a.multipolygons a.s.now (keys_at a.layers.now a.zs.now a.words.now a.n)
           l.at l.place (keys_at l.layers l.zs l.words l.m) l.invariant.6 _
-          c.next_entity.ensures c.in-NoMore.is; IsBounded = l.invariant.3 }
+          c.next_entity.ensures c.in-NoMore.is;
+      IsBounded = l.invariant.3;
+    }
 
 pub push_entity-requires : goal.push_entity-requires
 push_entity-requires c = let l =
@@ -51,13 +57,16 @@ pub returns-in-Stopped : goal.returns-in-Stopped
 returns-in-Stopped c = let a =
     c.args in
     let l =
-    c.loop-r in record { words_after = gather_stopped a.bundle.now a.rules.now a.selectors.now a.tests.now a.properties.now
+    c.loop-r in record {
+      words_after = gather_stopped a.bundle.now a.rules.now a.selectors.now a.tests.now a.properties.now
           a.numbers.now a.total a.zoom
           a.for_labels a.room a.sort a.multipolygons a.s.now (keys_at a.layers.now a.zs.now a.words.now a.n)
           l.at l.place (keys_at l.layers l.zs l.words l.m) l.invariant.6 _
           c.next_entity.ensures _
           c.in-Next.is _
-          (told_stopped _ _ _ _ _ _ c.push_entity.ensures.words_after c.in-Stopped.is); IsBounded = tt }
+          (told_stopped _ _ _ _ _ _ c.push_entity.ensures.words_after c.in-Stopped.is);
+      IsBounded = tt;
+    }
 
 pub overflow_add-place : goal.overflow_add-place
 overflow_add-place c = let a =

@@ -12,13 +12,16 @@ any_nan-requires c = subst few c.in-Maps.is c.walk_entity.ensures.few
 
 pub returns-then-any_nan : goal.returns-then-any_nan
 returns-then-any_nan c = let a =
-    c.args in record { words_after = entity_nan a.bundle.now a.selectors.now a.properties.now a.numbers.now a.for_labels
+    c.args in record {
+      words_after = entity_nan a.bundle.now a.selectors.now a.properties.now a.numbers.now a.for_labels
           a.multipolygons a.place a.e.kind
           a.e.id (layer_told (layer_tag (value_of a.s.now a.e))) a.room (keys_at a.layers.now a.zs.now a.words.now a.n)
           _ _ _
           c.walk_entity.ensures.maps_after _
           c.in-Maps.is _ c.any_nan.ensures
-          c.if-any_nan.true _ c.of_entity.ensures; IsBounded = tt }
+          c.if-any_nan.true _ c.of_entity.ensures;
+      IsBounded = tt;
+    }
 
 pub push_layers-requires : goal.push_layers-requires
 push_layers-requires c = let p =
@@ -34,14 +37,18 @@ push_layers-requires c = let p =
     )
 
 pub returns-in-NoMaps : goal.returns-in-NoMaps
-returns-in-NoMaps c = let a = c.args in record { words_after = entity_refused a.bundle.now a.selectors.now a.properties.now a.numbers.now a.for_labels
-          a.multipolygons a.place a.e.kind
-          a.e.id (layer_told (layer_tag (value_of a.s.now a.e))) a.room (keys_at a.layers.now a.zs.now a.words.now a.n)
-          _ _ _ c.walk_entity.ensures.maps_after _ c.in-NoMaps.is; IsBounded = tt }
+returns-in-NoMaps c = let a = c.args in record {
+  words_after = entity_refused a.bundle.now a.selectors.now a.properties.now a.numbers.now a.for_labels
+      a.multipolygons a.place a.e.kind
+      a.e.id (layer_told (layer_tag (value_of a.s.now a.e))) a.room (keys_at a.layers.now a.zs.now a.words.now a.n)
+      _ _ _ c.walk_entity.ensures.maps_after _ c.in-NoMaps.is;
+  IsBounded = tt;
+}
 
 pub returns-else-any_nan : goal.returns-else-any_nan
 returns-else-any_nan c = let a =
-    c.args in record { words_after = entity_pushed a.bundle.now a.selectors.now a.properties.now a.numbers.now a.for_labels
+    c.args in record {
+      words_after = entity_pushed a.bundle.now a.selectors.now a.properties.now a.numbers.now a.for_labels
           a.multipolygons a.place a.e.kind
           a.e.id (layer_told (layer_tag (value_of a.s.now a.e))) a.room (keys_at a.layers.now a.zs.now a.words.now a.n)
           _ _ _
@@ -52,4 +59,6 @@ returns-else-any_nan c = let a =
           _
           c.tag_layer.ensures
           _
-          c.push_layers.ensures.words_after; IsBounded = c.push_layers.ensures.IsBounded }
+          c.push_layers.ensures.words_after;
+      IsBounded = c.push_layers.ensures.IsBounded;
+    }

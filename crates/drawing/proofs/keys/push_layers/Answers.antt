@@ -8,17 +8,17 @@ use Rattle.drawing.proofs.keys.push_layers.Goals as goal
 
 pub loop-i-init : goal.loop-i-init
 loop-i-init c = let a = c.args in (
-      omega arith,
-      omega arith,
-      omega arith,
-      omega arith,
-      omega arith,
-      omega arith,
-      keys_moved a.bundle.now a.selectors.now a.properties.now a.numbers.now a.for_labels
-          a.multipolygons a.place a.kind
-          a.id a.layer a.maps.now a.m a.room
-          a.layers.now a.zs.now a.words.now a.n,
-    )
+  omega arith,
+  omega arith,
+  omega arith,
+  omega arith,
+  omega arith,
+  omega arith,
+  keys_moved a.bundle.now a.selectors.now a.properties.now a.numbers.now a.for_labels
+      a.multipolygons a.place a.kind
+      a.id a.layer a.maps.now a.m a.room
+      a.layers.now a.zs.now a.words.now a.n,
+)
 
 pub loop-i-preserved-then-is_layer : goal.loop-i-preserved-then-is_layer
 loop-i-preserved-then-is_layer c = let a = c.args in
@@ -40,14 +40,17 @@ loop-i-preserved-then-is_layer c = let a = c.args in
 pub returns-then-room-n : goal.returns-then-room-n
 returns-then-room-n c = let a =
     c.args in
-    let l = c.loop-i in record { words_after = push_stop a.bundle.now a.selectors.now a.properties.now a.numbers.now a.for_labels
+    let l = c.loop-i in record {
+      words_after = push_stop a.bundle.now a.selectors.now a.properties.now a.numbers.now a.for_labels
           a.multipolygons a.place a.kind
           a.id a.layer a.maps.now a.m a.room
           (keys_at l.layers l.zs l.words (a.n + l.k)) l.i l.k _ l.invariant.6
           c.loop-i-test.true _
           c.word_at.ensures _
           c.is_layer.ensures c.if-is_layer.false
-          (omega (arith, made_length (key_at l.layers l.zs l.words) (a.n + l.k))) _ c.plain.ensures; IsBounded = tt }
+          (omega (arith, made_length (key_at l.layers l.zs l.words) (a.n + l.k))) _ c.plain.ensures;
+      IsBounded = tt;
+    }
 
 pub loop-i-preserved : goal.loop-i-preserved
 loop-i-preserved c = let a =
@@ -76,8 +79,11 @@ loop-i-preserved c = let a =
 
 pub returns : goal.returns
 returns c = let a = c.args in
-    let l = c.loop-i in record { words_after = push_end a.bundle.now a.selectors.now a.properties.now a.numbers.now a.for_labels
+    let l = c.loop-i in record {
+      words_after = push_end a.bundle.now a.selectors.now a.properties.now a.numbers.now a.for_labels
           a.multipolygons a.place a.kind
           a.id a.layer a.maps.now a.m a.room
           (keys_at l.layers l.zs l.words (a.n + l.k)) l.i l.k _ l.invariant.6 c.loop-i-test.false
-          (omega (arith, l.invariant.2, made_length (key_at l.layers l.zs l.words) (a.n + l.k))); IsBounded = l.invariant.2 }
+          (omega (arith, l.invariant.2, made_length (key_at l.layers l.zs l.words) (a.n + l.k)));
+      IsBounded = l.invariant.2;
+    }

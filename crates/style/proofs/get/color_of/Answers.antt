@@ -12,10 +12,10 @@ returns-in-NoValue c = simp (c.in-NoValue.is, c.in-Has.is)
 pub returns-in-Identifier : goal.returns-in-Identifier
 unfolding color_of
 returns-in-Identifier c = simp (
-      ← c.name_color.ensures,
-      c.in-Identifier.is,
-      c.in-Has.is,
-    )
+  ← c.name_color.ensures,
+  c.in-Identifier.is,
+  c.in-Has.is,
+)
 
 pub returns-in-Text : goal.returns-in-Text
 unfolding color_of

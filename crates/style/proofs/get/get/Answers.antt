@@ -6,10 +6,10 @@ use Rattle.style.proofs.get.get.Goals as goal
 pub returns-then-i-row : goal.returns-then-i-row
 unfolding property_in pick
 returns-then-i-row c = simp (
-      ← c.property_value.ensures,
-      lt-ltb _ _ c.if-i-row.true,
-      ← c.find_name-i.ensures,
-    )
+  ← c.property_value.ensures,
+  lt-ltb _ _ c.if-i-row.true,
+  ← c.find_name-i.ensures,
+)
 
 pub returns : goal.returns
 unfolding property_in pick

@@ -12,10 +12,10 @@ returns-in-NoValue c = simp (c.in-NoValue.is, c.in-Has.is)
 pub returns-in-Identifier : goal.returns-in-Identifier
 unfolding word_range
 returns-in-Identifier c = simp (
-      ← c.name_range.ensures,
-      c.in-Identifier.is,
-      c.in-Has.is,
-    )
+  ← c.name_range.ensures,
+  c.in-Identifier.is,
+  c.in-Has.is,
+)
 
 pub returns-in-Text : goal.returns-in-Text
 unfolding word_range

@@ -8,36 +8,42 @@ use Rattle.walk.proofs.layers.assign_all.Goals as goal
 
 pub loop-i-init : goal.loop-i-init
 loop-i-init c = let a = c.args in (
-      omega arith,
-      c.requires.1,
-      ap
-          (λ k.
-          assign_all (name_at a.bundle.now a.properties.now) a.t.now a.m 0 k
-          (places a.from (a.to - a.from))) (less_zero a.m),
-    )
+  omega arith,
+  c.requires.1,
+  ap
+      (λ k.
+      assign_all (name_at a.bundle.now a.properties.now) a.t.now a.m 0 k
+      (places a.from (a.to - a.from))) (less_zero a.m),
+)
 
 pub returns-in-Refused : goal.returns-in-Refused
-returns-in-Refused c = let loop = c.loop-i in record { t_after = sym
-          (all_stop _ loop.t
-          c.args.m
-          loop.i _
-          c.loop-i-test.true _ _
-          c.assign_layer.ensures.t_after _ c.in-Refused.is)
-          ∙ loop.invariant.2; IsBounded = tt }
+returns-in-Refused c = let loop = c.loop-i in record {
+  t_after = sym
+      (all_stop _ loop.t
+      c.args.m
+      loop.i _
+      c.loop-i-test.true _ _
+      c.assign_layer.ensures.t_after _ c.in-Refused.is)
+      ∙ loop.invariant.2;
+  IsBounded = tt;
+}
 
 pub loop-i-preserved : goal.loop-i-preserved
 loop-i-preserved c = let loop = c.loop-i in (
-      omega arith,
-      omega (arith, loop.invariant.1),
-      sym
-          (all_next _ loop.t
-          c.args.m
-          loop.i _
-          c.loop-i-test.true _ _
-          c.assign_layer.ensures.t_after _ c.in-Now.is)
-          ∙ loop.invariant.2,
-    )
+  omega arith,
+  omega (arith, loop.invariant.1),
+  sym
+      (all_next _ loop.t
+      c.args.m
+      loop.i _
+      c.loop-i-test.true _ _
+      c.assign_layer.ensures.t_after _ c.in-Now.is)
+      ∙ loop.invariant.2,
+)
 
 pub returns : goal.returns
-returns c = let loop = c.loop-i in record { t_after = sym (all_end _ loop.t c.args.m loop.i _ c.loop-i-test.false)
-          ∙ loop.invariant.2; IsBounded = c.requires.0 }
+returns c = let loop = c.loop-i in record {
+  t_after = sym (all_end _ loop.t c.args.m loop.i _ c.loop-i-test.false)
+      ∙ loop.invariant.2;
+  IsBounded = c.requires.0;
+}

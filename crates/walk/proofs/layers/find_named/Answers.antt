@@ -8,9 +8,9 @@ use Rattle.walk.proofs.layers.find_named.Goals as goal
 
 pub loop-i-init : goal.loop-i-init
 loop-i-init c = let a = c.args in (
-      omega arith,
-      ap (seek (layer_in a.bundle.now a.selectors.now) a.t.now a.name.now 0) (less_zero a.n),
-    )
+  omega arith,
+  ap (seek (layer_in a.bundle.now a.selectors.now) a.t.now a.name.now 0) (less_zero a.n),
+)
 
 pub returns-then-is_layer : goal.returns-then-is_layer
 returns-then-is_layer c = let a = c.args in

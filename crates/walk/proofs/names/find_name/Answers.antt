@@ -19,14 +19,14 @@ returns-then-same_bytes c = let loop = c.loop-i in
 
 pub loop-i-preserved : goal.loop-i-preserved
 loop-i-preserved c = let loop = c.loop-i in (
-      omega arith,
-      place_next _ _ _ loop.i (omega arith) loop.invariant.1
-          (sym c.if-same_bytes.false
-          ∙ c.same_bytes.ensures
-          ∙ ap
-          (same c.args.name.now)
-          c.name_of.ensures),
-    )
+  omega arith,
+  place_next _ _ _ loop.i (omega arith) loop.invariant.1
+      (sym c.if-same_bytes.false
+      ∙ c.same_bytes.ensures
+      ∙ ap
+      (same c.args.name.now)
+      c.name_of.ensures),
+)
 
 pub returns : goal.returns
 returns c = place_none _ _ _ c.loop-i.i (omega arith) c.loop-i.invariant.1
