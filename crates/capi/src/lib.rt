@@ -41,8 +41,7 @@ use settings::{counts_at, settings_of, type_of};
 use style_rows::store_layers;
 use walk::property_maps;
 
-#[unsafe(no_mangle)]
-pub extern "C" fn mapcss_load(
+pub fn mapcss_load(
     bundle: &[u8],
     rules: &mut [u32],
     selectors: &mut [u32],
@@ -59,8 +58,7 @@ pub extern "C" fn mapcss_load(
     six.kind
 }
 
-#[unsafe(no_mangle)]
-pub extern "C" fn mapcss_property_maps(
+pub fn mapcss_property_maps(
     bundle: &[u8],
     rules: &[u32],
     selectors: &[u32],
@@ -83,8 +81,7 @@ pub extern "C" fn mapcss_property_maps(
     told.kind
 }
 
-#[unsafe(no_mangle)]
-pub extern "C" fn mapcss_styles(
+pub fn mapcss_styles(
     bundle: &[u8],
     rules: &[u32],
     selectors: &[u32],
@@ -123,8 +120,7 @@ pub extern "C" fn mapcss_styles(
     five.kind
 }
 
-#[unsafe(no_mangle)]
-pub extern "C" fn mapcss_canvas_color(
+pub fn mapcss_canvas_color(
     bundle: &[u8],
     rules: &[u32],
     selectors: &[u32],
@@ -151,8 +147,7 @@ pub extern "C" fn mapcss_canvas_color(
     five.kind
 }
 
-#[unsafe(no_mangle)]
-pub extern "C" fn mapcss_style_entities(
+pub fn mapcss_style_entities(
     bundle: &[u8],
     rules: &[u32],
     selectors: &[u32],
@@ -187,8 +182,7 @@ pub extern "C" fn mapcss_style_entities(
     five.kind
 }
 
-#[unsafe(no_mangle)]
-pub extern "C" fn mapcss_style_areas(
+pub fn mapcss_style_areas(
     bundle: &[u8],
     rules: &[u32],
     selectors: &[u32],

@@ -58,8 +58,7 @@ pub struct Told {
 }
 
 // One step of the tokenizer, as the top of this file says.
-#[unsafe(no_mangle)]
-pub extern "C" fn mapcss_next_token(
+pub fn mapcss_next_token(
     s: &[u8],
     at: usize,
     line: usize,

@@ -136,17 +136,16 @@ fn short_at_2(s: &[u8], at: usize) -> usize
     wide(base::byte_at(s, at + 2)) + 256 * wide(base::byte_at(s, at + 3))
 }
 
-// The input of a case: its prefix, then the fill byte so many times, as far as there is room. Answers its length.
+// The input of a case: its prefix, then the fill byte so many times. Answers its length.
 fn fill_input(input: &mut [u8], prefix: &[u8], fill: u8, count: usize) -> usize
     requires { count ≤ 4294967295 }
 {
-    let n = prefix.len() + count;
     let mut i: usize = 0;
-    while i < n && i < input.len() {
+    while i < input.len() {
         input[i] = input_byte(prefix, fill, i);
         i += 1;
     }
-    n
+    prefix.len() + count
 }
 
 fn input_byte(prefix: &[u8], fill: u8, i: usize) -> u8 {
