@@ -20,7 +20,7 @@ features=()
 if [[ -n ${ALONE:-} ]]; then
     features=(--no-default-features)
 else
-    (cd "$top" && rt staticlib capi_token && rt staticlib capi) >&2
+    ("$top/bindings/library" capi_token && "$top/bindings/library" capi) >&2
 fi
 # cargo finds .cargo/config.toml by its working directory
 (cd "$here" && cargo build --release --quiet "${features[@]}") >&2
