@@ -37,8 +37,7 @@ use Rattle.style.specs.declared.StyleType.{StyleType}
 use Rattle.style.specs.declared.StyleType.TheVariants.{Josm, MapsMe}
 use Rattle.style.specs.declared.get.Property.{Property}
 use Rattle.style.specs.declared.get.Property.TheVariants.{Missing, Has}
-use Rattle.canvas.specs.Shown.{type_shown}
-use Rattle.shown.specs.Style.{measure_shown, layer_shown, cap_shown, position_shown, settings_shown, text_shown, dashes_shown, with_text, style_shown, properties_of, StyleIs}
+use Rattle.shown.specs.Style.{measure_shown, layer_shown, cap_shown, position_shown, type_shown, settings_shown, text_shown, dashes_shown, with_text, style_shown, properties_of, StyleIs}
 
 -- ---- a name with a colon is none of the words
 
@@ -297,7 +296,7 @@ unfolding base_width
 base_is m d o e = present_or m d ∙ ap (λ x. Option.get_or x d) e
 
 multiplier_is : (t : StyleType) → casing_multiplier t ≡ theory.casing_multiplier (type_shown t)
-unfolding casing_multiplier theory.casing_multiplier
+unfolding casing_multiplier theory.casing_multiplier type_shown
 multiplier_is Josm = refl
 multiplier_is MapsMe = refl
 

@@ -20,7 +20,8 @@ use Rattle.style.specs.declared.Settings.{Settings}
 use Rattle.style.specs.declared.Style.{Style}
 use Rattle.style.specs.declared.StyleText.{StyleText}
 use Rattle.style.specs.declared.StyleText.TheVariants.{NoText, Shown}
-use Rattle.canvas.specs.Shown.{type_shown}
+use Rattle.style.specs.declared.StyleType.{StyleType}
+use Rattle.style.specs.declared.StyleType.TheVariants.{Josm, MapsMe}
 use Rattle.style.specs.declared.TextPosition.{TextPosition}
 use Rattle.style.specs.declared.TextPosition.TheVariants.{NoPosition, Center, Line}
 use Rattle.style.specs.declared.TextStyle.{TextStyle}
@@ -43,6 +44,10 @@ unfoldable pub position_shown : TextPosition → Option theory.TextPosition
 position_shown NoPosition = none
 position_shown Center = some theory.center
 position_shown Line = some theory.line
+
+unfoldable pub type_shown : StyleType → theory.StyleType
+type_shown Josm = theory.josm
+type_shown MapsMe = theory.maps_me
 
 unfoldable pub settings_shown : Settings → theory.Settings
 settings_shown s =
