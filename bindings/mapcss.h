@@ -1,5 +1,5 @@
 /* Jekundatz, a MapCSS style engine, for C and C++: the six exports of crates/capi.
-   Link target/staticlib/libcapi.a, which `rt staticlib capi` writes for x86-64 Linux. */
+   Link target/staticlib/libcapi.a, which `bindings/library capi` writes for x86-64 Linux. */
 
 /* Memory. The caller lends all of it and keeps all of it; a call allocates nothing and keeps nothing. An answer depends on
    the arguments alone, so calls may run at the same time, each with its own memory to be filled. Memory that is only read

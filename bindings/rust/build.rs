@@ -1,4 +1,4 @@
-//! Links the engine, which `rt staticlib capi` at the top of the repository writes.
+//! Links the engine, which `bindings/library capi` writes.
 
 use std::path::Path;
 
