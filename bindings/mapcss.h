@@ -1,4 +1,4 @@
-/* Jekundatz, a MapCSS style engine, for C and C++: the six exports of crates/capi.
+/* Jekundatz, a MapCSS style engine, for C and C++: the six exports of crates/capi_c.
    Link target/staticlib/libcapi.a, which `bindings/library capi` writes for x86-64 Linux. */
 
 /* Memory. The caller lends all of it and keeps all of it; a call allocates nothing and keeps nothing. An answer depends on

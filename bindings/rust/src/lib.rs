@@ -14,7 +14,7 @@
 //! ```
 //!
 //! Texts, entities and streams may be any bytes: a call answers, or refuses with five numbers ([`Refusal`]). The engine is
-//! proved (crates/capi of this repository); these wrappers are plain Rust and are not.
+//! proved (crates/capi_c of this repository); these wrappers are plain Rust and are not.
 
 #![deny(missing_docs)]
 #![deny(unsafe_code)]

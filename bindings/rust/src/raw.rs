@@ -1,4 +1,4 @@
-//! The six exports of crates/capi, and a safe call for each: the only unsafe code here. Nothing checks these declarations
+//! The six exports of crates/capi_c, and a safe call for each: the only unsafe code here. Nothing checks these declarations
 //! against the Rattle source. bindings/mapcss.h has the same in C, and says what each argument is.
 //!
 //! The exports take any bytes and words; all they ask is that memory is as lent: pointers with their lengths, aligned and
