@@ -5,18 +5,15 @@ ghost use Rattle.std.specs.Prelude.{◌≡◌};
 ghost use Rattle.answers.specs.Answers.{told_load, told_maps, told_styles, count_of, told_color, told_canvas, told_list};
 
 use answer_words::{Five, Six, counted, refused};
-use canvas::CanvasColor;
-use color::NamedColor;
-use drawing::DrawList;
-use parser::Loaded;
-use styles::Styled;
-use walk::PropertyMaps;
+use base::refusal::Refusal;
+use color::Color;
+use parser::Counts;
 
-pub fn told_load(loaded: Loaded) -> Six
+pub fn told_load(loaded: Result<Counts, Refusal>) -> Six
     ensures { result ≡ told_load loaded }
 {
     match loaded {
-        Loaded::NotLoaded(x) => Six {
+        Err(x) => Six {
             kind: x.number as u64,
             a: x.number as u64,
             b: x.reason as u64,
@@ -25,7 +22,7 @@ pub fn told_load(loaded: Loaded) -> Six
             e: x.character as u64,
             f: 0,
         },
-        Loaded::Sheet(n) => Six {
+        Ok(n) => Six {
             kind: 0,
             a: n.rules as u64,
             b: n.selectors as u64,
@@ -37,48 +34,48 @@ pub fn told_load(loaded: Loaded) -> Six
     }
 }
 
-pub fn told_maps(q: PropertyMaps) -> Five
+pub fn told_maps(q: Result<usize, Refusal>) -> Five
     ensures { result ≡ told_maps q }
 {
     match q {
-        PropertyMaps::NoMaps(x) => refused(x),
-        PropertyMaps::Maps(n) => counted(n),
+        Err(x) => refused(x),
+        Ok(layers) => counted(layers),
     }
 }
 
-pub fn told_styles(q: Styled) -> Five
+pub fn told_styles(q: Result<usize, Refusal>) -> Five
     ensures { result ≡ told_styles q }
 {
     match q {
-        Styled::NoStyles(e) => refused(e),
-        Styled::Styles(n) => counted(n),
+        Err(refusal) => refused(refusal),
+        Ok(styled) => counted(styled),
     }
 }
 
 // How many layers are styled: none after a refusal.
-pub fn count_of(q: Styled) -> usize
+pub fn count_of(q: Result<usize, Refusal>) -> usize
     ensures { result ≡ count_of q }
 {
     match q {
-        Styled::NoStyles(_) => 0,
-        Styled::Styles(n) => n,
+        Err(_) => 0,
+        Ok(n) => n,
     }
 }
 
-pub fn told_canvas(q: CanvasColor) -> Five
+pub fn told_canvas(q: Result<Option<Color>, Refusal>) -> Five
     ensures { result ≡ told_canvas q }
 {
     match q {
-        CanvasColor::NotJudged(e) => refused(e),
-        CanvasColor::CanvasIs(c) => told_color(c),
+        Err(e) => refused(e),
+        Ok(c) => told_color(c),
     }
 }
 
-fn told_color(q: NamedColor) -> Five
+fn told_color(q: Option<Color>) -> Five
     ensures { result ≡ told_color q }
 {
     match q {
-        NamedColor::Unknown => Five {
+        None => Five {
             kind: 0,
             a: 0,
             b: 0,
@@ -86,7 +83,7 @@ fn told_color(q: NamedColor) -> Five
             d: 0,
             e: 0,
         },
-        NamedColor::Known(c) => Five {
+        Some(c) => Five {
             kind: 0,
             a: 1,
             b: c.r as u64,
@@ -97,11 +94,11 @@ fn told_color(q: NamedColor) -> Five
     }
 }
 
-pub fn told_list(q: DrawList) -> Five
+pub fn told_list(q: Result<usize, Refusal>) -> Five
     ensures { result ≡ told_list q }
 {
     match q {
-        DrawList::NoList(e) => refused(e),
-        DrawList::Listed(n) => counted(n),
+        Err(r) => refused(r),
+        Ok(entries) => counted(entries),
     }
 }

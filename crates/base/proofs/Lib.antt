@@ -1,3 +1,4 @@
 pub mod Loops
 pub mod Compare
 pub mod Tables
+pub mod Options

@@ -1,4 +1,5 @@
 pub mod Choice
+pub mod Option
 pub mod Bytes
 pub mod Map
 pub mod Entity

@@ -14,74 +14,76 @@ pub struct Range {
     pub to: usize,
 }
 
+// The element at a place, and a given one past the end.
+pub fn at_or<T: Copy>(t: &[T], i: usize, past: T) -> T
+    ensures { result ≡ get_or t.now i past }
+{
+    if i < t.len() { t[i] } else { past }
+}
+
+// Stores an element, and nothing past the end.
+pub fn store<T: Copy>(t: &mut [T], at: usize, x: T)
+    ensures { t.new ≡ set t.old at x }
+{
+    if at < t.len() {
+        t[at] = x;
+    }
+}
+
 // The byte at a place, and 0 past the end.
 pub fn byte_at(s: &[u8], i: usize) -> u8
     ensures { result ≡ get_or s.now i 0 }
 {
-    if i < s.len() { s[i] } else { 0 }
+    at_or(s, i, 0)
 }
 
 // The word at a place, and 0 past the end.
 pub fn word_at(t: &[u32], i: usize) -> u32
     ensures { result ≡ get_or t.now i 0 }
 {
-    if i < t.len() { t[i] } else { 0 }
+    at_or(t, i, 0)
 }
 
 // The number at a place, and 0.0 past the end.
 pub fn float_at(t: &[f64], i: usize) -> f64
     ensures { result ≡ get_or t.now i zero_float }
 {
-    if i < t.len() { t[i] } else { 0.0 }
+    at_or(t, i, 0.0)
 }
 
 // Stores a word, and nothing past the end.
 pub fn set_word(t: &mut [u32], at: usize, v: u32)
     ensures { t.new ≡ set t.old at v }
 {
-    if at < t.len() {
-        t[at] = v;
-    }
+    store(t, at, v);
 }
 
 // Stores a word of 64 bits, and nothing past the end.
 pub fn set_long(t: &mut [u64], spot: usize, w: u64)
     ensures { t.new ≡ set t.old spot w }
 {
-    if spot < t.len() {
-        t[spot] = w;
-    }
+    store(t, spot, w);
 }
 
 // Stores a number, and nothing past the end.
 pub fn set_float(t: &mut [f64], place: usize, x: f64)
     ensures { t.new ≡ set t.old place x }
 {
-    if place < t.len() {
-        t[place] = x;
-    }
+    store(t, place, x);
 }
 
 // Every word is 0.
 pub fn zero_words(t: &mut [u32])
     ensures { t.new ≡ replicate (length t.old) 0 }
 {
-    let mut n = 0;
-    while n < t.len() {
-        t[n] = 0;
-        n += 1;
-    }
+    t.fill(0);
 }
 
 // Every number is 0.0.
 pub fn zero_floats(t: &mut [f64])
     ensures { t.new ≡ replicate (length t.old) zero_float }
 {
-    let mut k = 0;
-    while k < t.len() {
-        t[k] = 0.0;
-        k += 1;
-    }
+    t.fill(0.0);
 }
 
 // How many entries of `stride` elements a table of `len` elements takes: at most 16,384.
@@ -129,12 +131,10 @@ pub fn same_bytes(a: &[u8], b: &[u8]) -> bool
     if a.len() != b.len() {
         return false;
     }
-    let mut i = 0;
-    while i < a.len() {
+    for i in 0..a.len() {
         if a[i] != b[i] {
             return false;
         }
-        i += 1;
     }
     true
 }
@@ -143,11 +143,7 @@ pub fn same_bytes(a: &[u8], b: &[u8]) -> bool
 pub fn bytes_precede(a: &[u8], b: &[u8]) -> bool
     ensures { result ≡ precedes a.now b.now }
 {
-    let mut i = 0;
-    loop {
-        if b.len() <= i {
-            return false;
-        }
+    for i in 0..b.len() {
         if a.len() <= i {
             return true;
         }
@@ -157,6 +153,6 @@ pub fn bytes_precede(a: &[u8], b: &[u8]) -> bool
         if b[i] < a[i] {
             return false;
         }
-        i += 1;
     }
+    false
 }

@@ -12,18 +12,14 @@ use Rattle.base.specs.Choice.{pick, by-test, clash}
 use Rattle.base.specs.Map.{Entry, Map, key_of}
 use Rattle.base.specs.Refusal.{refusal}
 use Rattle.base.specs.declared.refusal.Refusal.{Refusal}
-use Rattle.group.specs.Elim.{on-Number, on-Place}
 use Rattle.group.specs.Number.{number_at, group_of}
 use Rattle.group.specs.Pair.{pairs_at, skip_of, entries_at, named, all_utf8, sized_bytes, pair_bytes, map_bytes}
-use Rattle.group.specs.declared.Number.{Number}
-use Rattle.group.specs.declared.Number.TheVariants.{Unread, Read}
-use Rattle.group.specs.declared.Place.{Place}
-use Rattle.group.specs.declared.Place.TheVariants.{Nowhere, At}
-use Rattle.group.proofs.Numbers.{by_number, number_read_at, number_written_at, number_most}
-use Rattle.group.proofs.Pairs.{AllShort, all_short, by_place, pairs_read, pairs_written, pairs_all, skip_within}
+use Rattle.group.proofs.Numbers.{number_read_at, number_written_at, number_most}
+use Rattle.group.proofs.Pairs.{AllShort, all_short, pairs_read, pairs_written, pairs_all, skip_within}
 use Rattle.bundle.specs.Bundle.{count_of, first_at, ranges_of, texts_of, good_names, is_bundle, check_of, bundle_bytes, IsTexts}
-use Rattle.bundle.specs.declared.Checked.{Checked}
-use Rattle.bundle.specs.declared.Checked.TheVariants.{BadBundle, Texts}
+use Rattle.std.specs.Prelude.{Option, Some, None, Ok, Err}
+use Rattle.base.specs.Option.{on_option}
+use Rattle.base.proofs.Options.{by_option, by_option2}
 
 module _ (s : Bytes) where
   pub bundle_long : 1048576 < length s → false ≡ is_bundle s
@@ -39,33 +35,33 @@ module _ (s : Bytes) where
       some_texts : eqb (count_of s) 0 ≡ false
       some_texts = ne_eqb (count_of s) 0 (λ e. c (p ∙ e))
 
-      placed : (r : Place) → skip_of n s f ≡ r → skip_of (count_of s) s (first_at s) ≡ r
+      placed : (r : Option ℕ) → skip_of n s f ≡ r → skip_of (count_of s) s (first_at s) ≡ r
       placed r e = ap₂ (λ (i j : ℕ). skip_of i s j) (sym p) (sym q) ∙ e
 
-      pub bundle_cut : skip_of n s f ≡ Nowhere → false ≡ is_bundle s
-      unfolding is_bundle pick on-Place
-      bundle_cut e = rw (le-ltb _ _ l, some_texts, placed Nowhere e)
+      pub bundle_cut : skip_of n s f ≡ None → false ≡ is_bundle s
+      unfolding is_bundle pick on_option
+      bundle_cut e = rw (le-ltb _ _ l, some_texts, placed None e)
 
-      pub bundle_over : (end : ℕ) → skip_of n s f ≡ At end → (end ≡ length s → ⊥) → false ≡ is_bundle s
-      unfolding is_bundle pick on-Place
-      bundle_over end e d = rw (le-ltb _ _ l, some_texts, placed (At end) e, ne_eqb _ _ d)
+      pub bundle_over : (end : ℕ) → skip_of n s f ≡ Some end → (end ≡ length s → ⊥) → false ≡ is_bundle s
+      unfolding is_bundle pick on_option
+      bundle_over end e d = rw (le-ltb _ _ l, some_texts, placed (Some end) e, ne_eqb _ _ d)
 
       pub bundle_names :
           (end : ℕ) (r : Bool)
-          → skip_of n s f ≡ At end
+          → skip_of n s f ≡ Some end
           → end ≡ length s
           → r ≡ good_names (map key_of (entries_at n s f))
           → r ≡ is_bundle s
-      unfolding is_bundle pick on-Place texts_of
+      unfolding is_bundle pick on_option texts_of
       bundle_names end r e d g =
           g
           ∙ ap₂ (λ (i j : ℕ). good_names (map key_of (entries_at i s j))) p q
-          ∙ (rw (le-ltb _ _ l, some_texts, placed (At end) e, eq-eqb _ _ d))
+          ∙ (rw (le-ltb _ _ l, some_texts, placed (Some end) e, eq-eqb _ _ d))
 
 module _ (s : Bytes) (t : Bool) (e : t ≡ is_bundle s) where
-  pub check_layout : (r : Refusal) → t ≡ false → r ≡ refusal 1 0 0 0 0 → BadBundle r ≡ check_of s
+  pub check_layout : (r : Refusal) → t ≡ false → r ≡ refusal 1 0 0 0 0 → Err r ≡ check_of s
   unfolding check_of pick
-  check_layout r h q = let g : is_bundle s ≡ false = sym e ∙ h in rw g (ap BadBundle q)
+  check_layout r h q = let g : is_bundle s ≡ false = sym e ∙ h in rw g (ap Err q)
 
   module _
       (h : t ≡ true)
@@ -79,19 +75,19 @@ module _ (s : Bytes) (t : Bool) (e : t ≡ is_bundle s) where
       unfolding texts_of
       texts_utf8 = ap₂ (λ (i j : ℕ). all_utf8 (entries_at i s j)) (sym p) (sym q) ∙ sym d
 
-      pub check_utf8 : (r : Refusal) → u ≡ false → r ≡ refusal 2 0 0 0 0 → BadBundle r ≡ check_of s
+      pub check_utf8 : (r : Refusal) → u ≡ false → r ≡ refusal 2 0 0 0 0 → Err r ≡ check_of s
       unfolding check_of pick
       check_utf8 r v w =
           let g : is_bundle s ≡ true = sym e ∙ h in
           let x : all_utf8 (texts_of s) ≡ false = texts_utf8 ∙ v in
-          rw (g, x) (ap BadBundle w)
+          rw (g, x) (ap Err w)
 
-      pub check_texts : u ≡ true → Texts n ≡ check_of s
+      pub check_texts : u ≡ true → Ok n ≡ check_of s
       unfolding check_of pick
       check_texts v =
           let g : is_bundle s ≡ true = sym e ∙ h in
           let x : all_utf8 (texts_of s) ≡ true = texts_utf8 ∙ v in
-          rw (g, x) (ap Texts p)
+          rw (g, x) (ap Ok p)
 
 pub ranges_are : (s : Bytes) (n f : ℕ) → n ≡ count_of s → f ≡ first_at s → pairs_at n s f ≡ ranges_of s
 unfolding ranges_of
@@ -101,18 +97,18 @@ ranges_are s n f p q = ap₂ (λ (i j : ℕ). pairs_at i s j) p q
 
 -- what was read of a bundle that was written
 module _ (m : Map Bytes) (t : IsTexts m) where
-  count_read : number_at (bundle_bytes m) 0 64 ≡ Read (length m) (length (group_of (length m)))
+  count_read : number_at (bundle_bytes m) 0 64 ≡ Some (length m, length (group_of (length m)))
   unfolding bundle_bytes
   count_read =
       number_read_at (bundle_bytes m) (map_bytes m) 0 64 (length m) refl t.few
-      ∙ ap (Read (length m)) (native.Mathlib.Nat.zero-add (length (group_of (length m))))
+      ∙ ap (λ (p : ℕ). Some (length m, p)) (native.Mathlib.Nat.zero-add (length (group_of (length m))))
 
   count_is : count_of (bundle_bytes m) ≡ length m
-  unfolding count_of on-Number
+  unfolding count_of on_option
   count_is = rw count_read
 
   first_is : first_at (bundle_bytes m) ≡ length (group_of (length m))
-  unfolding first_at on-Number
+  unfolding first_at on_option
   first_is = rw count_read
 
   behind_count : drop (length (group_of (length m))) (bundle_bytes m) ≡ map_bytes m ++ []
@@ -133,7 +129,7 @@ module _ (m : Map Bytes) (t : IsTexts m) where
       let r = pairs_read m (bundle_bytes m) (length (group_of (length m))) [] behind_count texts_short in
       ap₂ (λ (i j : ℕ). entries_at i (bundle_bytes m) j) count_is first_is ∙ r.1.1.0
 
-  skipped : (p : ℕ) × ((skip_of (length m) (bundle_bytes m) (length (group_of (length m))) ≡ At p) × (drop p (bundle_bytes m) ≡ []))
+  skipped : (p : ℕ) × ((skip_of (length m) (bundle_bytes m) (length (group_of (length m))) ≡ Some p) × (drop p (bundle_bytes m) ≡ []))
   skipped =
       let r = pairs_read m (bundle_bytes m) (length (group_of (length m))) [] behind_count texts_short in
       (r.0, (r.1.0, r.1.1.1))
@@ -168,24 +164,24 @@ module _ (m : Map Bytes) (t : IsTexts m) where
 module _ (s : Bytes) (all : AllBytes s) (b : is_bundle s ≡ true) where
   pub record Laid : Type 0 where
     pub short : length s ≤ 1048576
-    pub counted : number_at s 0 64 ≡ Read (count_of s) (first_at s)
+    pub counted : number_at s 0 64 ≡ Some (count_of s, first_at s)
     pub some_text : 1 ≤ count_of s
-    pub ends : skip_of (count_of s) s (first_at s) ≡ At (length s)
+    pub ends : skip_of (count_of s) s (first_at s) ≡ Some (length s)
     pub names : good_names (map key_of (texts_of s)) ≡ true
 
   pub laid : Laid
-  unfolding is_bundle pick on-Place count_of first_at on-Number
+  unfolding is_bundle pick on_option count_of first_at
   laid =
       by-test (ltb 1048576 (length s))
       (λ p. clash (rw p at b) refl)
       (λ p.
-      by_number (number_at s 0 64)
+      by_option2 (number_at s 0 64)
       (λ q. clash (rw (p, q) at b) refl)
       (λ n f q.
       by-test (eqb n 0)
       (λ z. clash (rw (p, q, z) at b) refl)
       (λ z.
-      by_place (skip_of n s f)
+      by_option (skip_of n s f)
       (λ e. clash (rw (p, q, z, e) at b) refl)
       (λ end e.
       by-test (eqb end (length s))
@@ -197,9 +193,9 @@ module _ (s : Bytes) (all : AllBytes s) (b : is_bundle s ≡ true) where
       let c' : first_at s ≡ f = rw q in
       record {
         short = ltb-false 1048576 (length s) p;
-        counted = q ∙ ap₂ Read (sym c) (sym c');
+        counted = q ∙ ap₂ (λ (i j : ℕ). Some (i, j)) (sym c) (sym c');
         some_text = omega arith;
-        ends = ap₂ (λ (i j : ℕ). skip_of i s j) c c' ∙ e ∙ ap At (eqb-true end (length s) y);
+        ends = ap₂ (λ (i j : ℕ). skip_of i s j) c c' ∙ e ∙ ap Some (eqb-true end (length s) y);
         names = g;
       })
       (λ y. clash (rw (p, q, z, e, y) at b) refl)))))

@@ -11,14 +11,10 @@ use Rattle.base.specs.Bytes.{Bytes, same, within}
 use Rattle.base.specs.Choice.{pick, by-test}
 use Rattle.base.specs.Map.{Entry, Map, key_of, member}
 use Rattle.base.specs.declared.Range.{Range}
-use Rattle.group.specs.Elim.{on-Pair}
 use Rattle.group.specs.Pair.{Ranges, ranges, pair_at, pairs_at, entries_at, named}
-use Rattle.group.specs.declared.Pair.{Pair}
-use Rattle.group.specs.declared.Pair.TheVariants.{Broken, Two}
-use Rattle.group.proofs.Pairs.{by_pair}
 use Rattle.bundle.specs.Bundle.{good_name, good_names, find_in}
-use Rattle.bundle.specs.declared.FoundText.{FoundText}
-use Rattle.bundle.specs.declared.FoundText.TheVariants.{Missing, Text}
+use Rattle.std.specs.Prelude.{Some, None}
+use Rattle.base.specs.Option.{on_option, on_option2}
 
 -- no text further on
 module _ (m : Map Bytes) (e : m ≡ []) where
@@ -57,27 +53,27 @@ module _ (m m' : Map Bytes) (a : Entry Bytes) (e : m ≡ a ∷ m') where
 run_step :
     (n k : ℕ) (s : Bytes) (at : ℕ)
     → k < n
-    → pairs_at (n - k) s at ≡ on-Pair (pair_at s at) [] (λ a b. ranges a b ∷ pairs_at (n - (k + 1)) s b.to)
+    → pairs_at (n - k) s at ≡ on_option2 (pair_at s at) [] (λ a b. ranges a b ∷ pairs_at (n - (k + 1)) s b.to)
 unfolding pairs_at
 run_step n k s at h =
     let p : n - k ≡ suc (n - (k + 1)) = omega arith in
     rw p
 
 module _ (s name : Bytes) (n k at : ℕ) where
-  pub find_end : n ≤ k → Missing ≡ find_in s name k (pairs_at (n - k) s at)
+  pub find_end : n ≤ k → None ≡ find_in s name k (pairs_at (n - k) s at)
   unfolding find_in pairs_at
   find_end h = let p : n - k ≡ 0 = omega arith in rw p
 
   module _ (h : k < n) where
-    pub find_broken : pair_at s at ≡ Broken → Missing ≡ find_in s name k (pairs_at (n - k) s at)
-    unfolding find_in on-Pair
+    pub find_broken : pair_at s at ≡ None → None ≡ find_in s name k (pairs_at (n - k) s at)
+    unfolding find_in on_option
     find_broken e = rw (run_step n k s at h, e)
 
-    module _ (a b : Range) (e : pair_at s at ≡ Two a b) (y : Bytes) (r : Bool) (p : y ≡ within a s) (q : r ≡ same name y) where
-      pub find_here : r ≡ true → Text k b ≡ find_in s name k (pairs_at (n - k) s at)
-      unfolding find_in on-Pair pick
+    module _ (a b : Range) (e : pair_at s at ≡ Some (a, b)) (y : Bytes) (r : Bool) (p : y ≡ within a s) (q : r ≡ same name y) where
+      pub find_here : r ≡ true → Some (k, b) ≡ find_in s name k (pairs_at (n - k) s at)
+      unfolding find_in on_option pick
       find_here t = let g : same name (within a s) ≡ true = ap (same name) (sym p) ∙ sym q ∙ t in rw (run_step n k s at h, e, g)
 
       pub find_next : r ≡ false → find_in s name (k + 1) (pairs_at (n - (k + 1)) s b.to) ≡ find_in s name k (pairs_at (n - k) s at)
-      unfolding find_in on-Pair pick
+      unfolding find_in on_option pick
       find_next t = let g : same name (within a s) ≡ false = ap (same name) (sym p) ∙ sym q ∙ t in rw (run_step n k s at h, e, g)

@@ -1,2 +1,1 @@
-pub mod Elim
 pub mod Bundle

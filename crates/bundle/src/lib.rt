@@ -8,38 +8,23 @@ ghost use Rattle.bundle.specs.Bundle.{count_of, first_at, ranges_of, good_names,
 
 use base::Range;
 use base::refusal::Refusal;
-use group::{Number, Pair, Place};
-
-// What a check of a bundle answers: the refusal, or how many texts it holds.
-#[derive(Clone, Copy)]
-pub enum Checked {
-    BadBundle(Refusal),
-    Texts(usize),
-}
-
-// The text of a name: its number in the bundle and its range.
-#[derive(Clone, Copy)]
-pub enum FoundText {
-    Missing,
-    Text(usize, Range),
-}
 
 // Checks the layout (refusal 1), then the UTF-8 of names and texts (refusal 2).
-pub fn check_bundle(bundle: &[u8]) -> Checked
+pub fn check_bundle(bundle: &[u8]) -> Result<usize, Refusal>
     ensures { result ≡ check_of bundle.now }
 {
     if is_bundle(bundle) {
         let count = text_count(bundle);
         if group::pairs_utf8(bundle, first_text(bundle), count) {
-            return Checked::Texts(count);
+            return Ok(count);
         }
-        return Checked::BadBundle(Refusal::plain(base::refusal::NOT_UTF8));
+        return Err(Refusal::plain(base::refusal::NOT_UTF8));
     }
-    Checked::BadBundle(Refusal::plain(base::refusal::BUNDLE_LAYOUT))
+    Err(Refusal::plain(base::refusal::BUNDLE_LAYOUT))
 }
 
 // The name and the text of number k, as ranges of the bundle.
-pub fn text_at(bundle: &[u8], k: usize) -> Pair
+pub fn text_at(bundle: &[u8], k: usize) -> Option<(Range, Range)>
     ensures { result ≡ nth_of (ranges_of bundle.now) k }
 {
     let count = text_count(bundle);
@@ -48,7 +33,7 @@ pub fn text_at(bundle: &[u8], k: usize) -> Pair
 }
 
 // The first text of a name, which is compared byte by byte.
-pub fn find_text(bundle: &[u8], name: &[u8]) -> FoundText
+pub fn find_text(bundle: &[u8], name: &[u8]) -> Option<(usize, Range)>
     ensures { result ≡ find_of bundle.now name.now }
 {
     let count = text_count(bundle);
@@ -61,8 +46,8 @@ fn text_count(bundle: &[u8]) -> usize
     ensures { result ≡ count_of bundle.now }
 {
     match group::number_at(bundle, 0, 64) {
-        Number::Unread => 0,
-        Number::Read(n, _) => n as usize,
+        None => 0,
+        Some((n, _)) => n as usize,
     }
 }
 
@@ -71,8 +56,8 @@ fn first_text(bundle: &[u8]) -> usize
     ensures { result ≡ first_at bundle.now }
 {
     match group::number_at(bundle, 0, 64) {
-        Number::Unread => 0,
-        Number::Read(_, next) => next,
+        None => 0,
+        Some((_, next)) => next,
     }
 }
 
@@ -89,8 +74,8 @@ fn is_bundle(bundle: &[u8]) -> bool
     }
     let first = first_text(bundle);
     match group::skip_pairs(bundle, first, count) {
-        Place::Nowhere => false,
-        Place::At(end) => {
+        None => false,
+        Some(end) => {
             if end == bundle.len() {
                 return good_names(bundle, first, count);
             }
@@ -103,21 +88,14 @@ fn is_bundle(bundle: &[u8]) -> bool
 fn good_names(s: &[u8], at: usize, count: usize) -> bool
     ensures { result ≡ good_names (map key_of (entries_at count s.now at)) }
 {
-    let mut left = count;
     let mut place = at;
-    while 0 < left {
-        match group::pair_at(s, place) {
-            Pair::Broken => {
-                return true;
-            }
-            Pair::Two(a, b) => {
-                let next = b.to;
-                if !good_name(s, base::part(s, a), next, left - 1) {
-                    return false;
-                }
-                place = next;
-                left -= 1;
-            }
+    for k in 0..count {
+        let Some((a, b)) = group::pair_at(s, place) else {
+            return true;
+        };
+        place = b.to;
+        if !good_name(s, base::part(s, a), place, count - k - 1) {
+            return false;
         }
     }
     true
@@ -140,44 +118,30 @@ fn good_name(s: &[u8], name: &[u8], at: usize, count: usize) -> bool
 fn is_named(s: &[u8], at: usize, count: usize, name: &[u8]) -> bool
     ensures { result ≡ member name.now (map key_of (entries_at count s.now at)) }
 {
-    let mut left = count;
     let mut place = at;
-    while 0 < left {
-        match group::pair_at(s, place) {
-            Pair::Broken => {
-                return false;
-            }
-            Pair::Two(a, b) => {
-                if base::same_bytes(name, base::part(s, a)) {
-                    return true;
-                }
-                place = b.to;
-                left -= 1;
-            }
+    for _ in 0..count {
+        let Some((a, b)) = group::pair_at(s, place) else {
+            return false;
+        };
+        if base::same_bytes(name, base::part(s, a)) {
+            return true;
         }
+        place = b.to;
     }
     false
 }
 
 // The first of so many texts that has a name; they are numbered from 0.
-fn find_from(s: &[u8], at: usize, count: usize, name: &[u8]) -> FoundText
+fn find_from(s: &[u8], at: usize, count: usize, name: &[u8]) -> Option<(usize, Range)>
     ensures { result ≡ find_in s.now name.now 0 (pairs_at count s.now at) }
 {
-    let mut k: usize = 0;
     let mut place = at;
-    while k < count {
-        match group::pair_at(s, place) {
-            Pair::Broken => {
-                return FoundText::Missing;
-            }
-            Pair::Two(a, b) => {
-                if base::same_bytes(name, base::part(s, a)) {
-                    return FoundText::Text(k, b);
-                }
-                place = b.to;
-                k += 1;
-            }
+    for k in 0..count {
+        let (a, b) = group::pair_at(s, place)?;
+        if base::same_bytes(name, base::part(s, a)) {
+            return Some((k, b));
         }
+        place = b.to;
     }
-    FoundText::Missing
+    None
 }

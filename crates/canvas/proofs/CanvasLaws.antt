@@ -11,8 +11,6 @@ use Rattle.base.specs.Bytes.{Bytes, same, between}
 use Rattle.base.specs.Choice.{pick, via, if_true, if_false}
 use Rattle.base.specs.Refusal.{refusal}
 use Rattle.base.specs.declared.refusal.Refusal.{Refusal}
-use Rattle.color.specs.declared.NamedColor.{NamedColor}
-use Rattle.color.specs.declared.NamedColor.TheVariants.{Unknown}
 use Rattle.table.specs.Value.{word_at, value_at}
 use Rattle.table.specs.declared.PropertyValue.{PropertyValue}
 use Rattle.valid.specs.Valid.{tables_sound}
@@ -20,7 +18,8 @@ use Rattle.valid.specs.declared.Counts.{Counts}
 use Rattle.decode.specs.Decode.{places}
 use Rattle.style.specs.declared.StyleType.{StyleType}
 use Rattle.canvas.specs.Canvas.{or_color, shade_of, color_at, first_color, any_canvas, rule_color, rules_color, canvas_name, canvas_of}
-use Rattle.canvas.specs.declared.CanvasColor.TheVariants.{NotJudged, CanvasIs}
+use Rattle.std.specs.Prelude.{Option, None, Ok, Err}
+use Rattle.color.specs.declared.Color.{Color}
 
 -- ---- what is left of from..to at k
 
@@ -37,17 +36,17 @@ all_left g n = let z : n - 0 ≡ n = omega arith in rw z
 
 -- ---- the first colour
 
-or_is : (r x k d : NamedColor) → r ≡ x → r ≡ k → or_color k d ≡ or_color x d
+or_is : (r x k d : Option Color) → r ≡ x → r ≡ k → or_color k d ≡ or_color x d
 or_is r x k d e q = ap (λ y. or_color y d) (sym q ∙ e)
 
 module _ (bundle : Bytes) (properties : List ℕ) (numbers : List Float) (name : Bytes) (to p : ℕ) where
-  pub colors_end : to ≤ p → Unknown ≡ first_color bundle properties numbers name (places p (to - p))
+  pub colors_end : to ≤ p → None ≡ first_color bundle properties numbers name (places p (to - p))
   unfolding first_color
   colors_end h = none_left (first_color bundle properties numbers name) to p h
 
-  module _ (h : p < to) (r : NamedColor) (e : r ≡ color_at bundle properties numbers name p) where
+  module _ (h : p < to) (r : Option Color) (e : r ≡ color_at bundle properties numbers name p) where
     pub colors_step :
-        (k : NamedColor)
+        (k : Option Color)
         → r ≡ k
         → or_color k (first_color bundle properties numbers name (places (p + 1) (to - (p + 1))))
         ≡ first_color bundle properties numbers name (places p (to - p))
@@ -55,17 +54,17 @@ module _ (bundle : Bytes) (properties : List ℕ) (numbers : List Float) (name :
     colors_step k q = or_is r _ k _ e q ∙ one_left (first_color bundle properties numbers name) to p h
 
 module _ (bundle : Bytes) (rules selectors properties : List ℕ) (numbers : List Float) (name : Bytes) where
-  abbrev among : List ℕ → NamedColor
+  abbrev among : List ℕ → Option Color
   among = rules_color bundle rules selectors properties numbers name
 
-  pub rules_end : (total i : ℕ) → total ≤ i → Unknown ≡ among (places i (total - i))
+  pub rules_end : (total i : ℕ) → total ≤ i → None ≡ among (places i (total - i))
   unfolding rules_color
   rules_end total i h = none_left among total i h
 
   pub rules_step :
       (total i : ℕ)
       → i < total
-      → (r k : NamedColor)
+      → (r k : Option Color)
       → r ≡ rule_color bundle rules selectors properties numbers name i
       → r ≡ k
       → or_color k (among (places (i + 1) (total - (i + 1)))) ≡ among (places i (total - i))
@@ -77,7 +76,7 @@ module _ (bundle : Bytes) (rules selectors properties : List ℕ) (numbers : Lis
       (e : t ≡ any_canvas selectors (places s (end - s))) where
     pub rule_canvas :
         t ≡ true
-        → (from to : ℕ) (r : NamedColor)
+        → (from to : ℕ) (r : Option Color)
         → from ≡ word_at rules i 3
         → to ≡ word_at rules i 4
         → r ≡ first_color bundle properties numbers name (places from (to - from))
@@ -85,7 +84,7 @@ module _ (bundle : Bytes) (rules selectors properties : List ℕ) (numbers : Lis
     unfolding rule_color pick
     rule_canvas y from to r f g q = rw (← a, ← b, ← e, y, ← f, ← g) q
 
-    pub rule_other : t ≡ false → Unknown ≡ rule_color bundle rules selectors properties numbers name i
+    pub rule_other : t ≡ false → None ≡ rule_color bundle rules selectors properties numbers name i
     unfolding rule_color pick
     rule_other y = rw (← a, ← b, ← e, y)
 
@@ -111,14 +110,14 @@ module _ (bundle : Bytes) (properties : List ℕ) (numbers : List Float) (name :
     (b : to ≡ word_at properties p 2) (part : Bytes) (e : part ≡ between from to bundle) (t : Bool) (f : t ≡ same part name) where
   pub color_named_lem :
       t ≡ true
-      → (v : PropertyValue) (r : NamedColor)
+      → (v : PropertyValue) (r : Option Color)
       → v ≡ value_at properties numbers p
       → r ≡ shade_of v
       → r ≡ color_at bundle properties numbers name p
   unfolding color_at pick
   color_named_lem y v r g q = rw (← a, ← b, ← e, ← f, y, ← g) q
 
-  pub color_other : t ≡ false → Unknown ≡ color_at bundle properties numbers name p
+  pub color_other : t ≡ false → None ≡ color_at bundle properties numbers name p
   unfolding color_at pick
   color_other y = rw (← a, ← b, ← e, ← f, y)
 
@@ -130,18 +129,18 @@ module _ (bundle : Bytes) (rules selectors tests properties : List ℕ) (numbers
       not b ≡ true
       → (e : Refusal)
       → e ≡ refusal 22 0 0 0 0
-      → NotJudged e ≡ canvas_of bundle rules selectors tests properties numbers n t
+      → Err e ≡ canvas_of bundle rules selectors tests properties numbers n t
   unfolding canvas_of
-  canvas_broken y e q = if_false _ _ _ (via i (not-true b y)) (ap NotJudged q)
+  canvas_broken y e q = if_false _ _ _ (via i (not-true b y)) (ap Err q)
 
   pub canvas_colored :
       not b ≡ false
-      → (k : StyleType) (r : NamedColor)
+      → (k : StyleType) (r : Option Color)
       → t ≡ k
       → r ≡ rules_color bundle rules selectors properties numbers (canvas_name k) (places 0 n.rules)
-      → CanvasIs r ≡ canvas_of bundle rules selectors tests properties numbers n t
+      → Ok r ≡ canvas_of bundle rules selectors tests properties numbers n t
   unfolding canvas_of
   canvas_colored y k r q e =
       if_true _ _ _ (via i (not-false b y))
-      (ap CanvasIs
+      (ap Ok
       (e ∙ ap (λ x. rules_color bundle rules selectors properties numbers (canvas_name x) (places 0 n.rules)) (sym q)))

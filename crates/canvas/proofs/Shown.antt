@@ -4,15 +4,13 @@ use Prim.Native.Nat.{ℕ}
 use mathlib.Core.Path.{◌≡◌, refl, sym, ◌∙◌, ap, ap₂}
 use mathlib.Core.Bool.{Bool, true, false, cond}
 use mathlib.Core.List.{List, [], ◌∷◌, ◌++◌, map}
-use mathlib.Core.Option.{Option, none, some}
+use mathlib.Core.Option.{Option as Maybe, none, some}
 use lib.Dec.{eqb}
 use borrow.Author.Tests.{eqb-true}
 use Rattle.base.specs.Bytes.{Bytes, same}
 use Rattle.base.specs.Choice.{pick, if_true, pick_split, by-test, clash}
 use Rattle.base.specs.Map.{Entry}
 use Rattle.color.specs.declared.Color.{Color}
-use Rattle.color.specs.declared.NamedColor.{NamedColor}
-use Rattle.color.specs.declared.NamedColor.TheVariants.{Unknown, Known}
 use Rattle.sheet.specs.Sheet.{all, canvas, meta, node, way, area, Value}
 use Rattle.table.specs.Value.{word_at, range_at, value_at}
 use Rattle.table.specs.declared.Name.TheVariants.{Plain, Joined}
@@ -28,23 +26,24 @@ use Rattle.style.specs.declared.StyleType.{StyleType}
 use Rattle.style.specs.declared.StyleType.TheVariants.{Josm, MapsMe}
 use Rattle.canvas.specs.Canvas.{canvas_name, or_color, shade_of, color_at, first_color, any_canvas, rule_color, rules_color, canvas_of}
 use Rattle.canvas.specs.Shown.{type_shown, CanvasIsRules}
-use Rattle.canvas.specs.declared.CanvasColor.TheVariants.{CanvasIs}
+use Rattle.std.specs.Prelude.{Option, Some, None, Result, Ok}
+use Rattle.base.specs.declared.refusal.Refusal.{Refusal}
 
 -- ---- a colour, or none
 
-shown_or : (a b : NamedColor) → named_color (or_color a b) ≡ or_else (named_color a) (named_color b)
+shown_or : (a b : Option Color) → named_color (or_color a b) ≡ or_else (named_color a) (named_color b)
 unfolding named_color or_color or_else
-shown_or Unknown b = refl
-shown_or (Known c) b = refl
+shown_or None b = refl
+shown_or (Some c) b = refl
 
-shown_pick : (t : Bool) (a : NamedColor) → named_color (pick t a Unknown) ≡ cond t (named_color a) none
+shown_pick : (t : Bool) (a : Option Color) → named_color (pick t a None) ≡ cond t (named_color a) none
 unfolding named_color pick
 shown_pick true a = refl
 shown_pick false a = refl
 
 -- sought again, the same is found
 twice :
-    (a b : Bool) (x o : Option Color)
+    (a b : Bool) (x o : Maybe Color)
     → or_else (cond a x none) (or_else (cond b x none) o) ≡ or_else (cond (pick a true b) x none) o
 unfolding or_else pick
 twice true true none o = refl
@@ -79,7 +78,7 @@ module _ (bundle : Bytes) (τ : Lent) (name : Bytes) where
   value_shown_lem (Numbers r) = refl
   value_shown_lem (WidthDelta x) = refl
 
-  abbrev first : List ℕ → NamedColor
+  abbrev first : List ℕ → Option Color
   first = first_color bundle τ.properties τ.numbers name
 
   color_shown :
@@ -108,7 +107,7 @@ module _ (bundle : Bytes) (τ : Lent) (name : Bytes) where
       ap₂ (λ a o. or_else (cond a (first_of name props) none) o) (kind_shown (word_at τ.selectors s 0)) (selectors_shown props cs ss)
       ∙ twice (eqb (word_at τ.selectors s 0) 2) (any_canvas τ.selectors ss) (first_of name props) (canvas_from name cs)
 
-  abbrev among : List ℕ → NamedColor
+  abbrev among : List ℕ → Option Color
   among = rules_color bundle τ.rules τ.selectors τ.properties τ.numbers name
 
   rule_shown :
@@ -136,7 +135,7 @@ name_shown_lem : (t : StyleType) → canvas_name t ≡ canvas_property (type_sho
 name_shown_lem Josm = refl
 name_shown_lem MapsMe = refl
 
-is_inside : (x c : NamedColor) → CanvasIs x ≡ CanvasIs c → c ≡ x
+is_inside : (x c : Option Color) → ◌≡◌ {A = Result (Option Color) Refusal} (Ok x) (Ok c) → c ≡ x
 is_inside x c e = cc
 
 pub canvas_is_rules : CanvasIsRules

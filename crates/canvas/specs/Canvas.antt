@@ -1,11 +1,9 @@
 -- The canvas colour, from tables and a bundle that may be anything: 22, or the first colour value of its property, in rule and
 -- property order, of a rule with a `canvas` selector.
-use Rattle.std.specs.Prelude.{ℕ, Bool, true, false, List, [], ◌∷◌, eqb, Float, length}
+use Rattle.std.specs.Prelude.{ℕ, Bool, true, false, List, [], ◌∷◌, eqb, Float, length, Option, Some, None, Result, Ok, Err}
 use Rattle.base.specs.Bytes.{Bytes, ascii, same}
 use Rattle.base.specs.Choice.{pick}
 use Rattle.base.specs.Refusal.{refusal}
-use Rattle.color.specs.declared.NamedColor.{NamedColor}
-use Rattle.color.specs.declared.NamedColor.TheVariants.{Unknown, Known}
 use Rattle.table.specs.Value.{word_at, range_at, value_at}
 use Rattle.table.specs.declared.PropertyValue.{PropertyValue}
 use Rattle.table.specs.declared.PropertyValue.TheVariants.{NoValue, Identifier, Text, Shade, Numbers, WidthDelta}
@@ -14,33 +12,33 @@ use Rattle.valid.specs.declared.Counts.{Counts}
 use Rattle.decode.specs.Decode.{name_at, places, places_in}
 use Rattle.style.specs.declared.StyleType.{StyleType}
 use Rattle.style.specs.declared.StyleType.TheVariants.{Josm, MapsMe}
-use Rattle.canvas.specs.declared.CanvasColor.{CanvasColor}
-use Rattle.canvas.specs.declared.CanvasColor.TheVariants.{NotJudged, CanvasIs}
+use Rattle.color.specs.declared.Color.{Color}
+use Rattle.base.specs.declared.refusal.Refusal.{Refusal}
 
 abbrev pub canvas_name : StyleType → Bytes
 canvas_name Josm = ascii "fill-color"
 canvas_name MapsMe = ascii "background-color"
 
 -- the first that there is
-unfoldable pub or_color : NamedColor → NamedColor → NamedColor
-or_color Unknown d = d
-or_color (Known c) d = Known c
+unfoldable pub or_color : Option Color → Option Color → Option Color
+or_color None d = d
+or_color (Some c) d = Some c
 
 -- a colour value, not a colour's name
-unfoldable pub shade_of : PropertyValue → NamedColor
-shade_of NoValue = Unknown
-shade_of (Identifier n) = Unknown
-shade_of (Text a) = Unknown
-shade_of (Shade c) = Known c
-shade_of (Numbers r) = Unknown
-shade_of (WidthDelta x) = Unknown
+unfoldable pub shade_of : PropertyValue → Option Color
+shade_of NoValue = None
+shade_of (Identifier n) = None
+shade_of (Text a) = None
+shade_of (Shade c) = Some c
+shade_of (Numbers r) = None
+shade_of (WidthDelta x) = None
 
 module _ (bundle : Bytes) (properties : List ℕ) (numbers : List Float) (name : Bytes) where
-  unfoldable pub color_at : ℕ → NamedColor
-  color_at p = pick (same (name_at bundle properties p) name) (shade_of (value_at properties numbers p)) Unknown
+  unfoldable pub color_at : ℕ → Option Color
+  color_at p = pick (same (name_at bundle properties p) name) (shade_of (value_at properties numbers p)) None
 
-  unfoldable pub first_color : List ℕ → NamedColor
-  first_color [] = Unknown
+  unfoldable pub first_color : List ℕ → Option Color
+  first_color [] = None
   first_color (p ∷ ps) = or_color (color_at p) (first_color ps)
 
 -- the kind of `canvas` is 2
@@ -49,17 +47,17 @@ any_canvas selectors [] = false
 any_canvas selectors (s ∷ ss) = pick (eqb (word_at selectors s 0) 2) true (any_canvas selectors ss)
 
 module _ (bundle : Bytes) (rules selectors properties : List ℕ) (numbers : List Float) (name : Bytes) where
-  unfoldable pub rule_color : ℕ → NamedColor
+  unfoldable pub rule_color : ℕ → Option Color
   rule_color r =
       pick (any_canvas selectors (places_in (range_at rules r 1)))
-      (first_color bundle properties numbers name (places_in (range_at rules r 3))) Unknown
+      (first_color bundle properties numbers name (places_in (range_at rules r 3))) None
 
-  unfoldable pub rules_color : List ℕ → NamedColor
-  rules_color [] = Unknown
+  unfoldable pub rules_color : List ℕ → Option Color
+  rules_color [] = None
   rules_color (r ∷ rs) = or_color (rule_color r) (rules_color rs)
 
-unfoldable pub canvas_of : Bytes → List ℕ → List ℕ → List ℕ → List ℕ → List Float → Counts → StyleType → CanvasColor
+unfoldable pub canvas_of : Bytes → List ℕ → List ℕ → List ℕ → List ℕ → List Float → Counts → StyleType → Result (Option Color) Refusal
 canvas_of bundle rules selectors tests properties numbers n t =
     pick (tables_sound rules selectors tests properties numbers n (length bundle))
-    (CanvasIs (rules_color bundle rules selectors properties numbers (canvas_name t) (places 0 n.rules)))
-    (NotJudged (refusal 22 0 0 0 0))
+    (Ok (rules_color bundle rules selectors properties numbers (canvas_name t) (places 0 n.rules)))
+    (Err (refusal 22 0 0 0 0))

@@ -1,7 +1,6 @@
 -- What the answer is on rules: the canvas colour, as the theory has it, of the rules that the tables spell.
-use Rattle.std.specs.Prelude.{ℕ, ◌≡◌, true, List, Float, length}
+use Rattle.std.specs.Prelude.{ℕ, ◌≡◌, true, List, Float, length, Option, Ok}
 use Rattle.base.specs.Bytes.{Bytes}
-use Rattle.color.specs.declared.NamedColor.{NamedColor}
 use Rattle.cascade.specs.Style.{StyleType as StyleType', josm, maps_me, named_color}
 use Rattle.cascade.specs.Canvas.{canvas_fill_color}
 use Rattle.valid.specs.Valid.{tables_sound}
@@ -12,7 +11,7 @@ use Rattle.decode.specs.Decode.{rules_at}
 use Rattle.style.specs.declared.StyleType.{StyleType}
 use Rattle.style.specs.declared.StyleType.TheVariants.{Josm, MapsMe}
 use Rattle.canvas.specs.Canvas.{canvas_of}
-use Rattle.canvas.specs.declared.CanvasColor.TheVariants.{CanvasIs}
+use Rattle.color.specs.declared.Color.{Color}
 
 abbrev pub type_shown : StyleType → StyleType'
 type_shown Josm = josm
@@ -21,9 +20,9 @@ type_shown MapsMe = maps_me
 -- m, colors: any tally with so many rules, and any table of colours: the rules do not read them
 abbrev pub CanvasIsRules : Type 0
 CanvasIsRules =
-    (bundle : Bytes) (rules selectors tests properties : List ℕ) (numbers : List Float) (n : Counts) (t : StyleType) (c : NamedColor)
+    (bundle : Bytes) (rules selectors tests properties : List ℕ) (numbers : List Float) (n : Counts) (t : StyleType) (c : Option Color)
     (m : Tally) (colors : List ℕ)
     → m.rules ≡ n.rules
     → tables_sound rules selectors tests properties numbers n (length bundle) ≡ true
-    → canvas_of bundle rules selectors tests properties numbers n t ≡ CanvasIs c
+    → canvas_of bundle rules selectors tests properties numbers n t ≡ Ok c
     → named_color c ≡ canvas_fill_color (type_shown t) (rules_at bundle (lent m rules selectors tests properties numbers colors))

@@ -6,17 +6,10 @@ ghost use Rattle.decode.specs.Decode.{places};
 ghost use Rattle.canvas.specs.Canvas.{shade_of, color_at, first_color, any_canvas, rule_color, rules_color, canvas_of};
 
 use base::refusal::{Refusal, TABLE_BROKEN};
-use color::NamedColor;
+use color::Color;
 use style::StyleType;
 use table::{PropertyValue, word_of};
 use valid::{Counts, is_sound};
-
-// The refusal, or the colour, if there is one.
-#[derive(Clone, Copy)]
-pub enum CanvasColor {
-    NotJudged(Refusal),
-    CanvasIs(NamedColor),
-}
 
 // The canvas colour: 22 is the only refusal. proofs/Shown.antt restates the promise on rules.
 pub fn canvas_fill_color(
@@ -28,7 +21,7 @@ pub fn canvas_fill_color(
     numbers: &[f64],
     n: Counts,
     style_type: StyleType,
-) -> CanvasColor
+) -> Result<Option<Color>, Refusal>
     ensures { result ≡ canvas_of bundle.now rules.now selectors.now tests.now properties.now numbers.now n style_type }
 {
     if !is_sound(
@@ -40,10 +33,10 @@ pub fn canvas_fill_color(
         n,
         bundle.len(),
     ) {
-        return CanvasColor::NotJudged(Refusal::plain(TABLE_BROKEN));
+        return Err(Refusal::plain(TABLE_BROKEN));
     }
     match style_type {
-        StyleType::Josm => CanvasColor::CanvasIs(rules_color(
+        StyleType::Josm => Ok(rules_color(
             bundle,
             rules,
             selectors,
@@ -52,7 +45,7 @@ pub fn canvas_fill_color(
             b"fill-color",
             n.rules,
         )),
-        StyleType::MapsMe => CanvasColor::CanvasIs(rules_color(
+        StyleType::MapsMe => Ok(rules_color(
             bundle,
             rules,
             selectors,
@@ -73,21 +66,21 @@ fn rules_color(
     numbers: &[f64],
     name: &[u8],
     total: usize,
-) -> NamedColor
+) -> Option<Color>
     ensures { result ≡ rules_color bundle.now rules.now selectors.now properties.now numbers.now name.now (places 0 total) }
 {
     let mut r: usize = 0;
     while r < total {
         match rule_color(bundle, rules, selectors, properties, numbers, name, r) {
-            NamedColor::Unknown => {
+            None => {
                 r += 1;
             }
-            NamedColor::Known(c) => {
-                return NamedColor::Known(c);
+            Some(c) => {
+                return Some(c);
             }
         }
     }
-    NamedColor::Unknown
+    None
 }
 
 fn rule_color(
@@ -98,7 +91,7 @@ fn rule_color(
     numbers: &[f64],
     name: &[u8],
     r: usize,
-) -> NamedColor
+) -> Option<Color>
     ensures { result ≡ rule_color bundle.now rules.now selectors.now properties.now numbers.now name.now r }
 {
     if any_canvas(selectors, word_of(rules, r, 1), word_of(rules, r, 2)) {
@@ -111,7 +104,7 @@ fn rule_color(
             word_of(rules, r, 4),
         );
     }
-    NamedColor::Unknown
+    None
 }
 
 // Whether one of the selectors from..to is of the canvas.
@@ -136,25 +129,31 @@ fn first_color(
     name: &[u8],
     from: usize,
     to: usize,
-) -> NamedColor
+) -> Option<Color>
     ensures { result ≡ first_color bundle.now properties.now numbers.now name.now (places from (to - from)) }
 {
     let mut p = from;
     while p < to {
         match color_at(bundle, properties, numbers, name, p) {
-            NamedColor::Unknown => {
+            None => {
                 p += 1;
             }
-            NamedColor::Known(c) => {
-                return NamedColor::Known(c);
+            Some(c) => {
+                return Some(c);
             }
         }
     }
-    NamedColor::Unknown
+    None
 }
 
 // The colour value of property p, if it has this name.
-fn color_at(bundle: &[u8], properties: &[u32], numbers: &[f64], name: &[u8], p: usize) -> NamedColor
+fn color_at(
+    bundle: &[u8],
+    properties: &[u32],
+    numbers: &[f64],
+    name: &[u8],
+    p: usize,
+) -> Option<Color>
     ensures { result ≡ color_at bundle.now properties.now numbers.now name.now p }
 {
     let named = base::part(
@@ -167,18 +166,18 @@ fn color_at(bundle: &[u8], properties: &[u32], numbers: &[f64], name: &[u8], p: 
     if base::same_bytes(named, name) {
         return shade_of(table::property_value(properties, numbers, p));
     }
-    NamedColor::Unknown
+    None
 }
 
-fn shade_of(v: PropertyValue) -> NamedColor
+fn shade_of(v: PropertyValue) -> Option<Color>
     ensures { result ≡ shade_of v }
 {
     match v {
-        PropertyValue::NoValue => NamedColor::Unknown,
-        PropertyValue::Identifier(_) => NamedColor::Unknown,
-        PropertyValue::Text(_) => NamedColor::Unknown,
-        PropertyValue::Shade(c) => NamedColor::Known(c),
-        PropertyValue::Numbers(_) => NamedColor::Unknown,
-        PropertyValue::WidthDelta(_) => NamedColor::Unknown,
+        PropertyValue::NoValue => None,
+        PropertyValue::Identifier(_) => None,
+        PropertyValue::Text(_) => None,
+        PropertyValue::Shade(c) => Some(c),
+        PropertyValue::Numbers(_) => None,
+        PropertyValue::WidthDelta(_) => None,
     }
 }

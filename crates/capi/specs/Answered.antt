@@ -1,16 +1,15 @@
 -- What the exports answer and leave in their lent slices: crates/capi/src/lib.rt has the numbers as a table.
-use Rattle.std.specs.Prelude.{ℕ, ◌≡◌, List, map, ℤ, pos, Float, take}
+use Rattle.std.specs.Prelude.{ℕ, ◌≡◌, List, map, ℤ, pos, Float, take, Result}
 use Rattle.base.specs.Table.{zero_float, padded, stored, flat}
 use Rattle.parser.specs.Load.{Held}
-use Rattle.parser.specs.declared.Loaded.{Loaded}
-use Rattle.walk.specs.declared.PropertyMaps.{PropertyMaps}
 use Rattle.styles.specs.declared.EntityStyles.{EntityStyles}
 use Rattle.styles.specs.declared.StyledLayer.{StyledLayer}
-use Rattle.drawing.specs.declared.DrawList.{DrawList}
 use Rattle.style_rows.specs.Rows.{row_words, row_floats, row_layer}
 use Rattle.answer_words.specs.Words.{five_words, six_words}
 use Rattle.answers.specs.Answers.{told_load, told_maps, told_styles, count_of, told_list}
 use Rattle.answer_words.specs.declared.Five.{Five}
+use Rattle.base.specs.declared.refusal.Refusal.{Refusal}
+use Rattle.parser.specs.declared.Counts.{Counts}
 
 -- an answer's number, and its five words in out
 pub record Told (s : Five) (r : ℕ) (out out' : List ℕ) : Type 0 where
@@ -18,13 +17,13 @@ pub record Told (s : Five) (r : ℕ) (out out' : List ℕ) : Type 0 where
   pub stored_words : out' ≡ stored out 0 (five_words s)
 
 -- a load: the answer's six words, and the tables
-pub record LoadAnswered (x : Loaded × Held) (r : ℕ) (tables : Held) (out out' : List ℕ) : Type 0 where
+pub record LoadAnswered (x : Result Counts Refusal × Held) (r : ℕ) (tables : Held) (out out' : List ℕ) : Type 0 where
   pub kind : r ≡ (told_load x.0).kind
   pub left_tables : tables ≡ x.1
   pub stored_words : out' ≡ stored out 0 (six_words (told_load x.0))
 
 -- property maps
-pub record MapsAnswered (x : PropertyMaps × List ℕ) (r : ℕ) (maps out out' : List ℕ) : Type 0 where
+pub record MapsAnswered (x : Result ℕ Refusal × List ℕ) (r : ℕ) (maps out out' : List ℕ) : Type 0 where
   pub told : Told (told_maps x.0) r out out'
   pub left_maps : maps ≡ x.1
 
@@ -40,6 +39,6 @@ pub record StylesAnswered (x : EntityStyles) (r : ℕ) (words : List ℕ) (float
   pub left_layers : layers ≡ padded (pos 0) 32 (map row_layer (styled_layers x))
 
 -- a drawing list
-pub record ListAnswered (x : DrawList × List ℕ) (r : ℕ) (list out out' : List ℕ) : Type 0 where
+pub record ListAnswered (x : Result ℕ Refusal × List ℕ) (r : ℕ) (list out out' : List ℕ) : Type 0 where
   pub told : Told (told_list x.0) r out out'
   pub left_list : list ≡ x.1

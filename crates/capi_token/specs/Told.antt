@@ -1,5 +1,5 @@
 -- The numbers that stand for a step: crates/capi_token/src/lib.rt has them as a table.
-use Rattle.std.specs.Prelude.{ℕ, ◌≡◌, Bool, true, false, List, [], ◌∷◌, Float, set}
+use Rattle.std.specs.Prelude.{ℕ, ◌≡◌, Bool, true, false, List, [], ◌∷◌, Float, set, Option, Some, None}
 use Rattle.base.specs.Table.{zero_float, stored}
 use Rattle.base.specs.declared.Range.{Range}
 use Rattle.cursor.specs.Cursor.{cursor}
@@ -34,8 +34,6 @@ use Rattle.token_kind.specs.declared.Token.TheVariants.{
   SemiColon,
   Comma,
 }
-use Rattle.token_kind.specs.declared.ZoomLevel.{ZoomLevel}
-use Rattle.token_kind.specs.declared.ZoomLevel.TheVariants.{NoLevel, Level}
 use Rattle.capi_token.specs.declared.Payload.{Payload}
 use Rattle.capi_token.specs.declared.Told.{Told}
 
@@ -56,13 +54,13 @@ abbrev pub flag : Bool → ℕ
 flag true = 1
 flag false = 0
 
-abbrev pub present : ZoomLevel → ℕ
-present NoLevel = 0
-present (Level z) = 1
+abbrev pub present : Option ℕ → ℕ
+present None = 0
+present (Some z) = 1
 
-abbrev pub height : ZoomLevel → ℕ
-height NoLevel = 0
-height (Level z) = z
+abbrev pub height : Option ℕ → ℕ
+height None = 0
+height (Some z) = z
 
 unfoldable pub told_token : Token → Payload
 told_token (Import r) = ranged 2 r

@@ -35,7 +35,7 @@ ghost use Rattle.capi_token.specs.Told.{Answered, told_step, told_token, ranged,
 use base::{Range, set_float, set_long};
 use cursor::Cursor;
 use token::{Step, next_token};
-use token_kind::{Token, ZoomLevel};
+use token_kind::Token;
 
 // A token's kind, its four words, and its number.
 #[derive(Clone, Copy)]
@@ -183,31 +183,22 @@ fn numbered(kind: u64, number: f64) -> Payload
     }
 }
 
-fn present(level: ZoomLevel) -> u64
+fn present(level: Option<u8>) -> u64
     ensures { result ≡ present level }
 {
-    match level {
-        ZoomLevel::NoLevel => 0,
-        ZoomLevel::Level(_) => 1,
-    }
+    u64::from(level.is_some())
 }
 
-fn height(level: ZoomLevel) -> u64
+fn height(level: Option<u8>) -> u64
     ensures { result ≡ height level }
 {
-    match level {
-        ZoomLevel::NoLevel => 0,
-        ZoomLevel::Level(z) => z as u64,
-    }
+    u64::from(level.unwrap_or(0))
 }
 
 fn flag(b: bool) -> u64
     ensures { result ≡ flag b }
 {
-    if b {
-        return 1;
-    }
-    0
+    u64::from(b)
 }
 
 fn store_words(out: &mut [u64], told: Told)

@@ -1,5 +1,5 @@
 -- From a layer's property map to its style: property_map_to_style, and which layers get one.
-use Rattle.std.specs.Prelude.{ℕ, Bool, false, not, cond, List, [], ◌∷◌, map, eqb, ℤ, Float}
+use Rattle.std.specs.Prelude.{ℕ, Bool, false, not, cond, List, [], ◌∷◌, map, eqb, ℤ, Float, Option as Found, Some, None}
 use Rattle.std.proofs.Math.Option.{Option, none, some, get_or}
 use Rattle.std.specs.Float.{binary64}
 use Rattle.std.specs.Float.Ieee.{add, mul}
@@ -8,8 +8,6 @@ use Rattle.base.specs.Map.{Entry, Map, entry, lookup}
 use Rattle.base.specs.Entity.{Entity}
 use Rattle.color.specs.Named.{color_named}
 use Rattle.color.specs.declared.Color.{Color}
-use Rattle.color.specs.declared.NamedColor.{NamedColor}
-use Rattle.color.specs.declared.NamedColor.TheVariants.{Unknown, Known}
 use Rattle.sheet.specs.Sheet.{Value, identifier, string, color, numbers, width_delta}
 use Rattle.cascade.specs.Map.{keep, and_map, or_else, map_entry}
 use Rattle.cascade.specs.Number.{as_integer, whole}
@@ -64,9 +62,9 @@ casing_multiplier josm = whole 2
 casing_multiplier maps_me = whole 1
 
 -- the colour of a name, if it has one
-unfoldable pub named_color : NamedColor → Option Color
-named_color Unknown = none
-named_color (Known c) = some c
+unfoldable pub named_color : Found Color → Option Color
+named_color None = none
+named_color (Some c) = some c
 
 -- what the getters read from a value; `none` is an absent property
 unfoldable pub as_color : Option Value → Option Color

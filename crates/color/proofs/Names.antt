@@ -5,30 +5,30 @@ use Rattle.base.specs.Bytes.{Bytes, ascii, same}
 use Rattle.base.specs.Choice.{pick}
 use Rattle.base.proofs.Compare.{same_false}
 use Rattle.color.specs.Named.{Named, named_colors, first_named, color_named}
-use Rattle.color.specs.declared.NamedColor.TheVariants.{Unknown, Known}
+use Rattle.std.specs.Prelude.{Some, None}
 
 -- each entry of a list has, by its name, its own colour
 pub data Colored : List Named → Type 0 where
   none : Colored []
-  next : {e : Named} {es : List Named} → color_named e.name ≡ Known e.color → Colored es → Colored (e ∷ es)
+  next : {e : Named} {es : List Named} → color_named e.name ≡ Some e.color → Colored es → Colored (e ∷ es)
 
 pub all_colored : Colored named_colors
 unfolding color_named first_named same pick
 all_colored = next refl (next refl (next refl (next refl (next refl (next refl (next refl (next refl (next refl (next refl none)))))))))
 
-colored_in : (es : List Named) → Colored es → (e : Named) → Memᴰ e es → color_named e.name ≡ Known e.color
+colored_in : (es : List Named) → Colored es → (e : Named) → Memᴰ e es → color_named e.name ≡ Some e.color
 colored_in (d ∷ es) (next p ps) e (Memᴰ.head q) = rw q p
 colored_in (d ∷ es) (next p ps) e (Memᴰ.tail m) = colored_in es ps e m
 colored_in [] _ e x3 = elim x3 [ ]
 
-pub name_colored : (e : Named) → Memᴰ e named_colors → color_named e.name ≡ Known e.color
+pub name_colored : (e : Named) → Memᴰ e named_colors → color_named e.name ≡ Some e.color
 name_colored e m = colored_in named_colors all_colored e m
 
-others : (es : List Named) (n : Bytes) → ((e : Named) → Memᴰ e es → n ≡ e.name → ⊥) → first_named es n ≡ Unknown
+others : (es : List Named) (n : Bytes) → ((e : Named) → Memᴰ e es → n ≡ e.name → ⊥) → first_named es n ≡ None
 unfolding first_named pick
 others [] n h = refl
 others (d ∷ es) n h = rw (same_false n d.name (h d (Memᴰ.head refl))) (others es n (λ e m. h e (Memᴰ.tail m)))
 
-pub other_unknown : (n : Bytes) → ((e : Named) → Memᴰ e named_colors → n ≡ e.name → ⊥) → color_named n ≡ Unknown
+pub other_unknown : (n : Bytes) → ((e : Named) → Memᴰ e named_colors → n ≡ e.name → ⊥) → color_named n ≡ None
 unfolding color_named
 other_unknown n h = others named_colors n h

@@ -1,16 +1,14 @@
 -- The ten colours that have a name.
-use Rattle.std.specs.Prelude.{ℕ, List, [], ◌∷◌}
+use Rattle.std.specs.Prelude.{ℕ, List, [], ◌∷◌, Option, Some, None}
 use Rattle.base.specs.Bytes.{Bytes, ascii, same}
 use Rattle.base.specs.Choice.{pick}
 use Rattle.color.specs.declared.Color.{Color}
-use Rattle.color.specs.declared.NamedColor.{NamedColor}
-use Rattle.color.specs.declared.NamedColor.TheVariants.{Unknown, Known}
 
 abbrev pub rgb : ℕ → ℕ → ℕ → Color
 rgb r g b = record { r = r; g = g; b = b }
 
-abbrev pub known : ℕ → ℕ → ℕ → NamedColor
-known r g b = Known (rgb r g b)
+abbrev pub known : ℕ → ℕ → ℕ → Option Color
+known r g b = Some (rgb r g b)
 
 pub record Named : Type 0 where
   pub name : Bytes
@@ -34,9 +32,9 @@ named_colors =
     ∷ []
 
 -- the colour of the first entry with a name
-unfoldable pub first_named : List Named → Bytes → NamedColor
-first_named [] n = Unknown
-first_named (e ∷ es) n = pick (same n e.name) (Known e.color) (first_named es n)
+unfoldable pub first_named : List Named → Bytes → Option Color
+first_named [] n = None
+first_named (e ∷ es) n = pick (same n e.name) (Some e.color) (first_named es n)
 
-unfoldable pub color_named : Bytes → NamedColor
+unfoldable pub color_named : Bytes → Option Color
 color_named n = first_named named_colors n

@@ -13,14 +13,8 @@ pub struct Color {
     pub b: u8,
 }
 
-#[derive(Clone, Copy)]
-pub enum NamedColor {
-    Unknown,
-    Known(Color),
-}
-
 // The colour of a name. proofs/Names.antt restates the promise over the table of names.
-pub fn from_color_name(name: &[u8]) -> NamedColor
+pub fn from_color_name(name: &[u8]) -> Option<Color>
     ensures { result ≡ color_named name.now }
 {
     if same_bytes(name, b"white") {
@@ -53,11 +47,11 @@ pub fn from_color_name(name: &[u8]) -> NamedColor
     if same_bytes(name, b"salmon") {
         return known(250, 128, 114);
     }
-    NamedColor::Unknown
+    None
 }
 
-fn known(r: u8, g: u8, b: u8) -> NamedColor
+fn known(r: u8, g: u8, b: u8) -> Option<Color>
     ensures { result ≡ known r g b }
 {
-    NamedColor::Known(Color { r, g, b })
+    Some(Color { r, g, b })
 }

@@ -2,19 +2,19 @@
 use Prim.Native.Nat.{ℕ, ◌+◌, ◌-◌, ◌<◌, ◌≤◌, ◌^◌}
 use native.Mathlib.Omega.{arith}
 use mathlib.Core.Path.{◌≡◌, refl, sym, ◌∙◌, ap, subst}
-use mathlib.Core.Bool.{Bool, true, false}
+use mathlib.Core.Bool.{false}
 use mir.Syntax.{w64}
 use mir.Val.{Fits}
 use lib.Dec.{eqb}
-use lib.ListN.{length, get_or, drop}
+use lib.ListN.{length, get_or}
 use lib.Seq.{drop-cons}
 use Rattle.base.specs.Bytes.{Bytes}
 use Rattle.base.specs.Choice.{pick}
-use Rattle.utf8.specs.Elim.{on-Char, Char-End, Char-Code}
+use Rattle.utf8.specs.Elim.{on-Char}
 use Rattle.utf8.specs.Utf8.{char_at, char_of, by_row, gathered, fits}
 use Rattle.utf8.specs.declared.Char.{Char}
 use Rattle.utf8.specs.declared.Char.TheVariants.{Bad, End, Code}
-use Rattle.utf8.proofs.Rows.{char_within, char_end, one_fits}
+use Rattle.utf8.proofs.Rows.{char_within, one_fits}
 use Rattle.cursor.specs.Cursor.{passed, next_char}
 use Rattle.cursor.specs.declared.Cursor.{Cursor}
 use Rattle.cursor.specs.declared.Next.{Next}

@@ -1,33 +1,27 @@
 -- What is read before a token is read character by character.
-use Prim.Native.Nat.{ℕ, zero, suc, ◌+◌, ◌-◌, ◌<◌, ◌≤◌}
+use Prim.Native.Nat.{ℕ, zero, suc, ◌-◌, ◌<◌, ◌≤◌}
 use native.Mathlib.Omega.{arith}
 use mathlib.Core.Path.{◌≡◌, refl, sym, ◌∙◌, ap, subst}
-use mathlib.Core.Bool.{Bool, true, false}
 use lib.Dec.{eqb}
 use lib.ListN.{length}
 use Rattle.base.specs.Bytes.{Bytes}
 use Rattle.base.specs.Choice.{pick, pick_split}
 use Rattle.base.specs.Turns.{Turn, more, done, after, turns}
 use Rattle.base.proofs.Loops.{Kept, turns_keep}
-use Rattle.utf8.specs.Elim.{on-Char}
 use Rattle.space.specs.Space.{is_white_space}
 use Rattle.utf8.specs.Utf8.{char_at}
-use Rattle.utf8.specs.declared.Char.{Char}
-use Rattle.utf8.specs.declared.Char.TheVariants.{Bad, End, Code}
 use Rattle.cursor.specs.Cursor.{passed, next_char}
-use Rattle.cursor.specs.Elim.{on-Next, on-Digit, on-Comment, on-Significant}
+use Rattle.cursor.specs.Elim.{on-Next, on-Comment, on-Significant}
 use Rattle.cursor.specs.Blank.{line_turn, skip_line_comment, block_turn, skip_block_comment, try_skip_comment, significant_turn, next_significant_char}
 use Rattle.cursor.specs.Reach.{Reach, here, on, over, Within, AtEnd, Begun}
 use Rattle.cursor.specs.declared.Cursor.{Cursor}
 use Rattle.cursor.specs.declared.Next.{Next}
 use Rattle.cursor.specs.declared.Next.TheVariants.{Done, Got}
-use Rattle.cursor.specs.declared.Digit.{Digit}
-use Rattle.cursor.specs.declared.Digit.TheVariants.{NoDigit, IsDigit}
 use Rattle.cursor.specs.declared.Comment.{Comment}
 use Rattle.cursor.specs.declared.Comment.TheVariants.{OpenComment, NoComment, Skipped}
 use Rattle.cursor.specs.declared.Significant.{Significant}
 use Rattle.cursor.specs.declared.Significant.TheVariants.{Broken, Ended, Found}
-use Rattle.cursor.proofs.Onward.{Read, read, read_within, next_on, Behind, missed}
+use Rattle.cursor.proofs.Onward.{read, read_within, next_on, missed}
 
 -- what holds in each case holds of the answer
 module _ {B : Type 0} (P : B → Type 0) where
@@ -39,15 +33,6 @@ module _ {B : Type 0} (P : B → Type 0) where
   unfolding on-Next
   split-Next (Done d) f g p q = p d refl
   split-Next (Got k d) f g p q = q k d refl
-
-  pub split-Digit :
-      (x : Digit) (a : B) (g : ℕ → B)
-      → (x ≡ NoDigit → P a)
-      → ((v : ℕ) → x ≡ IsDigit v → P (g v))
-      → P (on-Digit x a g)
-  unfolding on-Digit
-  split-Digit NoDigit a g p q = p refl
-  split-Digit (IsDigit v) a g p q = q v refl
 
   pub split-Comment :
       (x : Comment) (f : Cursor → B) (a : B) (g : Cursor → B)

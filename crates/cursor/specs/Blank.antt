@@ -1,5 +1,5 @@
 -- What stands before a token: blanks and comments.
-use Rattle.std.specs.Prelude.{ℕ, suc, eqb, length}
+use Rattle.std.specs.Prelude.{suc, eqb, length}
 use Rattle.base.specs.Bytes.{Bytes}
 use Rattle.base.specs.Choice.{pick}
 use Rattle.base.specs.Turns.{Turn, more, done, turns}

@@ -1,8 +1,6 @@
 -- Classes of characters.
-use Rattle.std.specs.Prelude.{ℕ, ◌-◌, Bool, true, false, ◌&&◌, eqb, ltb, leb}
+use Rattle.std.specs.Prelude.{ℕ, ◌-◌, Bool, true, ◌&&◌, eqb, ltb, leb, Option, Some, None}
 use Rattle.base.specs.Choice.{pick}
-use Rattle.cursor.specs.declared.Digit.{Digit}
-use Rattle.cursor.specs.declared.Digit.TheVariants.{NoDigit, IsDigit}
 
 -- the characters low to high
 abbrev pub in_span : ℕ → ℕ → ℕ → Bool
@@ -31,5 +29,5 @@ digit_value k =
     (pick (ltb k 123) (k - 87)
     255)))))
 
-unfoldable pub to_digit : ℕ → ℕ → Digit
-to_digit k radix = pick (ltb (digit_value k) radix) (IsDigit (digit_value k)) NoDigit
+unfoldable pub to_digit : ℕ → ℕ → Option ℕ
+to_digit k radix = pick (ltb (digit_value k) radix) (Some (digit_value k)) None

@@ -1,5 +1,5 @@
 -- The cursor of a text, and the next character.
-use Rattle.std.specs.Prelude.{ℕ, ◌+◌, Bool, true, false, eqb, ltb}
+use Rattle.std.specs.Prelude.{ℕ, ◌+◌, Bool, false, eqb, ltb}
 use Rattle.base.specs.Bytes.{Bytes}
 use Rattle.base.specs.Choice.{pick}
 use Rattle.utf8.specs.Utf8.{char_at}

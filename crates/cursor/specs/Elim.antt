@@ -3,11 +3,9 @@ use Rattle.std.specs.Prelude.{◌≡◌, ℕ}
 use Rattle.std.proofs.Common.{sym, ap, ◌∙◌}
 use Rattle.cursor.specs.declared.Comment.{Comment}
 use Rattle.cursor.specs.declared.Cursor.{Cursor}
-use Rattle.cursor.specs.declared.Digit.{Digit}
 use Rattle.cursor.specs.declared.Next.{Next}
 use Rattle.cursor.specs.declared.Significant.{Significant}
 use Rattle.cursor.specs.declared.Next.TheVariants.{Done, Got}
-use Rattle.cursor.specs.declared.Digit.TheVariants.{NoDigit, IsDigit}
 use Rattle.cursor.specs.declared.Comment.TheVariants.{OpenComment, NoComment, Skipped}
 use Rattle.cursor.specs.declared.Significant.TheVariants.{Broken, Ended, Found}
 
@@ -22,18 +20,6 @@ Next-Done x k0 k1 e h = h ∙ sym (ap (λ x. on-Next x k0 k1) e)
 pub Next-Got : {B : Type 0} (x : Next) (k0 : Cursor → B) (k1 : ℕ → Cursor → B) {x0 : ℕ} {x1 : Cursor} {y : B} → x ≡ Got x0 x1 → y ≡ k1 x0 x1 → y ≡ on-Next x k0 k1
 unfolding on-Next
 Next-Got x k0 k1 e h = h ∙ sym (ap (λ x. on-Next x k0 k1) e)
-
-unfoldable pub on-Digit : {B : Type 0} → Digit → B → (ℕ → B) → B
-on-Digit NoDigit k0 k1 = k0
-on-Digit (IsDigit x0) k0 k1 = k1 x0
-
-pub Digit-NoDigit : {B : Type 0} (x : Digit) (k0 : B) (k1 : ℕ → B) {y : B} → x ≡ NoDigit → y ≡ k0 → y ≡ on-Digit x k0 k1
-unfolding on-Digit
-Digit-NoDigit x k0 k1 e h = h ∙ sym (ap (λ x. on-Digit x k0 k1) e)
-
-pub Digit-IsDigit : {B : Type 0} (x : Digit) (k0 : B) (k1 : ℕ → B) {x0 : ℕ} {y : B} → x ≡ IsDigit x0 → y ≡ k1 x0 → y ≡ on-Digit x k0 k1
-unfolding on-Digit
-Digit-IsDigit x k0 k1 e h = h ∙ sym (ap (λ x. on-Digit x k0 k1) e)
 
 unfoldable pub on-Comment : {B : Type 0} → Comment → (Cursor → B) → B → (Cursor → B) → B
 on-Comment (OpenComment x0) k0 k1 k2 = k0 x0

@@ -4,7 +4,6 @@ use Rattle.base.specs.Bytes.{Bytes}
 use Rattle.base.specs.Choice.{pick}
 use Rattle.utf8.specs.Utf8.{char_at}
 use Rattle.utf8.specs.declared.Char.TheVariants.{Code}
-use Rattle.cursor.specs.declared.Cursor.{Cursor}
 
 -- the characters of a text up to a place, the last one first
 pub data Text (s : Bytes) : List ℕ → ℕ → Type 0 where

@@ -1,5 +1,5 @@
 -- The places that reading reaches: character by character, and how often it then read the end.
-use Rattle.std.specs.Prelude.{ℕ, zero, suc, ◌≤◌, ◌≡◌}
+use Rattle.std.specs.Prelude.{ℕ, suc, ◌≤◌, ◌≡◌}
 use Rattle.base.specs.Bytes.{Bytes}
 use Rattle.cursor.specs.Cursor.{next_char}
 use Rattle.cursor.specs.declared.Cursor.{Cursor}

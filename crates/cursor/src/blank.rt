@@ -44,16 +44,9 @@ pub fn try_skip_comment(s: &[u8], c: Cursor) -> Comment
     ensures { result ≡ try_skip_comment s.now c }
 {
     match c.next_char(s) {
-        Next::Done(_) => Comment::NoComment,
-        Next::Got(k, d) => {
-            if k == 47 {
-                return Comment::Skipped(skip_line_comment(s, d));
-            }
-            if k == 42 {
-                return skip_block_comment(s, d);
-            }
-            Comment::NoComment
-        }
+        Next::Got(47, d) => Comment::Skipped(skip_line_comment(s, d)),
+        Next::Got(42, d) => skip_block_comment(s, d),
+        _ => Comment::NoComment,
     }
 }
 
@@ -89,20 +82,11 @@ pub fn skip_block_comment(s: &[u8], c: Cursor) -> Comment
             }
             Next::Got(k, e) => {
                 if k == 42 {
-                    match e.next_char(s) {
-                        Next::Done(_) => {
-                            d = e;
-                        }
-                        Next::Got(j, f) => {
-                            if j == 47 {
-                                return Comment::Skipped(f);
-                            }
-                            d = e;
-                        }
+                    if let Next::Got(47, f) = e.next_char(s) {
+                        return Comment::Skipped(f);
                     }
-                } else {
-                    d = e;
                 }
+                d = e;
             }
         }
     }

@@ -29,13 +29,6 @@ pub enum Next {
     Got(u32, Cursor),
 }
 
-// What a character is as a digit.
-#[derive(Clone, Copy)]
-pub enum Digit {
-    NoDigit,
-    IsDigit(u8),
-}
-
 // A comment that does not end, no comment, or the place behind one.
 #[derive(Clone, Copy)]
 pub enum Comment {
@@ -80,18 +73,15 @@ impl Cursor {
     fn passed(self, to: usize, newline: bool) -> Self
         ensures { result ≡ passed self to newline }
     {
-        if self.newline {
-            return Cursor {
-                at: to,
-                line: bump(self.line),
-                character: 1,
-                newline,
-            };
-        }
+        let (line, character) = if self.newline {
+            (bump(self.line), 1)
+        } else {
+            (self.line, bump(self.character))
+        };
         Cursor {
             at: to,
-            line: self.line,
-            character: bump(self.character),
+            line,
+            character,
             newline,
         }
     }
@@ -116,87 +106,50 @@ fn peek(s: &[u8], at: usize) -> Char
 pub fn bump(n: usize) -> usize
     ensures { result ≡ bump n }
 {
-    if n < 0xFFFF_FFFF_FFFF_FFFF {
-        return n + 1;
-    }
-    n
+    n.saturating_add(1)
 }
 
 pub fn can_be_in_at_directive(k: u32) -> bool
     ensures { result ≡ can_be_in_at_directive k }
 {
-    if k == 95 {
-        return true;
-    }
-    if in_span(97, 122, k) {
-        return true;
-    }
-    in_span(48, 57, k)
+    k == 95 || in_span(97, 122, k) || in_span(48, 57, k)
 }
 
 pub fn can_start_identifier(k: u32) -> bool
     ensures { result ≡ can_start_identifier k }
 {
-    if k == 95 {
-        return true;
-    }
-    if in_span(97, 122, k) {
-        return true;
-    }
-    in_span(65, 90, k)
+    k == 95 || in_span(97, 122, k) || in_span(65, 90, k)
 }
 
 // - . / and 0 to 9 stand in a row.
 pub fn can_continue_identifier(k: u32) -> bool
     ensures { result ≡ can_continue_identifier k }
 {
-    if in_span(45, 57, k) {
-        return true;
-    }
-    can_start_identifier(k)
+    in_span(45, 57, k) || can_start_identifier(k)
 }
 
 // Rust's char::to_digit, for a radix up to 36.
-pub fn to_digit(k: u32, radix: u8) -> Digit
+pub fn to_digit(k: u32, radix: u8) -> Option<u8>
     ensures { result ≡ to_digit k radix }
 {
     let v = digit_value(k);
-    if v < radix {
-        return Digit::IsDigit(v);
-    }
-    Digit::NoDigit
+    if v < radix { Some(v) } else { None }
 }
 
 // The value of a digit or letter, and 255 for any other character.
 fn digit_value(k: u32) -> u8
     ensures { result ≡ digit_value k }
 {
-    if k < 48 {
-        return 255;
+    match k {
+        48..=57 => (k - 48) as u8,
+        65..=90 => (k - 55) as u8,
+        97..=122 => (k - 87) as u8,
+        _ => 255,
     }
-    if k < 58 {
-        return (k - 48) as u8;
-    }
-    if k < 65 {
-        return 255;
-    }
-    if k < 91 {
-        return (k - 55) as u8;
-    }
-    if k < 97 {
-        return 255;
-    }
-    if k < 123 {
-        return (k - 87) as u8;
-    }
-    255
 }
 
 pub fn in_span(low: u32, high: u32, k: u32) -> bool
     ensures { result ≡ leb low k && leb k high }
 {
-    if low <= k {
-        return k <= high;
-    }
-    false
+    low <= k && k <= high
 }

@@ -2,7 +2,7 @@
 ghost use Rattle.std.specs.Prelude.{◌≡◌};
 ghost use Rattle.cursor.specs.Number.{add_digit, times_odd, pow_ten, digit_added, dotted, takes_dot, size, sign, value, read_digits};
 
-use crate::{Cursor, Digit, Next, bump, to_digit};
+use crate::{Cursor, Next, bump, to_digit};
 
 // The digits before the dot and after it so far, how many stand after it, and whether it was read:
 // number, number_after_dot, digits_after_dot and had_dot of the Rust.
@@ -32,7 +32,7 @@ pub fn read_digits(s: &[u8], c: Cursor, sum: Sum) -> Digits
                 return Digits { sum: x, end: d };
             }
             Next::Got(k, e) => match to_digit(k, 10) {
-                Digit::NoDigit => {
+                None => {
                     if x.takes_dot(k) {
                         x = x.dotted();
                         d = e;
@@ -40,7 +40,7 @@ pub fn read_digits(s: &[u8], c: Cursor, sum: Sum) -> Digits
                         return Digits { sum: x, end: d };
                     }
                 }
-                Digit::IsDigit(v) => {
+                Some(v) => {
                     x = x.digit_added(v);
                     d = e;
                 }
@@ -55,38 +55,27 @@ impl Sum {
     {
         if self.dot {
             return Sum {
-                whole: self.whole,
                 fraction: add_digit(self.fraction, digit),
                 places: bump(self.places),
-                dot: true,
+                ..self
             };
         }
         Sum {
             whole: add_digit(self.whole, digit),
-            fraction: self.fraction,
-            places: self.places,
-            dot: false,
+            ..self
         }
     }
 
     fn dotted(self) -> Self
         ensures { result ≡ dotted self }
     {
-        Sum {
-            whole: self.whole,
-            fraction: self.fraction,
-            places: self.places,
-            dot: true,
-        }
+        Sum { dot: true, ..self }
     }
 
     fn takes_dot(self, k: u32) -> bool
         ensures { result ≡ takes_dot self k }
     {
-        if self.dot {
-            return false;
-        }
-        k == 46
+        !self.dot && k == 46
     }
 
     // The whole part and the fraction.
@@ -109,10 +98,7 @@ impl Sum {
 fn sign(minus: bool) -> f64
     ensures { result ≡ sign minus }
 {
-    if minus {
-        return -1.0;
-    }
-    1.0
+    if minus { -1.0 } else { 1.0 }
 }
 
 fn add_digit(number: f64, digit: u8) -> f64
@@ -130,7 +116,7 @@ pub fn pow_ten(n: usize) -> f64
     let mut left = n;
     loop {
         result = times_odd(left, result, base);
-        left = left / 2;
+        left /= 2;
         if left == 0 {
             return result;
         }
@@ -141,8 +127,5 @@ pub fn pow_ten(n: usize) -> f64
 fn times_odd(n: usize, res: f64, base: f64) -> f64
     ensures { result ≡ times_odd n res base }
 {
-    if n % 2 == 1 {
-        return res * base;
-    }
-    res
+    if n % 2 == 1 { res * base } else { res }
 }

@@ -20,9 +20,8 @@ use Rattle.style.specs.declared.Settings.{Settings}
 use Rattle.order.specs.Keys.{Key, key_le}
 use Rattle.drawing.specs.Gather.{Gathered, stopped, gathered, on-Gathered, gather_of}
 use Rattle.drawing.specs.Lists.{room_of, entries_of, listed, ordered, nodes_of, areas_of}
-use Rattle.drawing.specs.declared.DrawList.{DrawList}
-use Rattle.drawing.specs.declared.DrawList.TheVariants.{NoList, Listed}
 use Rattle.drawing.proofs.ListLaws.{length_sort}
+use Rattle.std.specs.Prelude.{Result, Ok, Err}
 
 was_false : (b : Bool) → not b ≡ true → b ≡ false
 was_false true h = sym h
@@ -38,11 +37,11 @@ zeros len z e h = e ∙ sym (ap (λ n. replicate n 0) h)
 
 -- ---- the answer and the list
 
-abbrev no_list : Refusal → List ℕ → DrawList × List ℕ
-no_list r u = (NoList r, u)
+abbrev no_list : Refusal → List ℕ → Result ℕ Refusal × List ℕ
+no_list r u = (Err r, u)
 
-abbrev is_list : ℕ → List ℕ → DrawList × List ℕ
-is_list k u = (Listed k, u)
+abbrev is_list : ℕ → List ℕ → Result ℕ Refusal × List ℕ
+is_list k u = (Ok k, u)
 
 turned_length : (w : ℕ) (ks : List Key) → length (drop w ks ++ take w ks) ≡ length ks
 turned_length w ks =

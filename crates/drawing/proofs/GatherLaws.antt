@@ -16,51 +16,43 @@ use Rattle.base.specs.Refusal.{of_entity}
 use Rattle.base.specs.Turns.{Turn, more, done}
 use Rattle.base.specs.declared.refusal.Refusal.{Refusal}
 use Rattle.base.proofs.Loops.{Going, going_start, going_more, going_done}
-use Rattle.group.specs.Elim.{on-Number, on-Place}
 use Rattle.group.specs.Number.{number_at}
 use Rattle.group.specs.Pair.{skip_of, all_utf8}
-use Rattle.group.proofs.Numbers.{by_number, number_within}
-use Rattle.group.proofs.Pairs.{by_place, skip_within}
-use Rattle.entity.specs.Elim.{on-EntityAt, on-NextEntity}
+use Rattle.group.proofs.Numbers.{number_within}
+use Rattle.group.proofs.Pairs.{skip_within}
 use Rattle.entity.specs.Layout.{kind_fits, rising, tags_of, closed_of, tags_at, entity_at, next_of}
-use Rattle.entity.specs.declared.EntityAt.{EntityAt}
-use Rattle.entity.specs.declared.EntityAt.TheVariants.{NoEntity, Whole}
 use Rattle.entity.specs.declared.EntityRange.{EntityRange}
-use Rattle.entity.specs.declared.NextEntity.{NextEntity}
-use Rattle.entity.specs.declared.NextEntity.TheVariants.{BadNext, NoMore, Next}
 use Rattle.entity.specs.declared.Sort.{Sort}
-use Rattle.tag_number.specs.declared.LayerTag.{LayerTag}
-use Rattle.walk.specs.declared.PropertyMaps.{PropertyMaps}
-use Rattle.walk.specs.declared.PropertyMaps.TheVariants.{NoMaps, Maps}
 use Rattle.styles.specs.Styles.{styled_rows}
 use Rattle.order.specs.Keys.{Key}
 use Rattle.drawing.specs.Gather.{Gathered, stopped, gathered, on-Gathered, keys_at, told, keys_from, any_nan, keys_in, push, Spot, entity_keys, gather_turn, gather_of}
-use Rattle.drawing.specs.declared.Gathering.{Gathering}
-use Rattle.drawing.specs.declared.Gathering.TheVariants.{Stopped, Now}
+use Rattle.std.specs.Prelude.{Option, Result, Ok, Err, Some, None}
+use Rattle.base.specs.Option.{on_option, on_result}
+use Rattle.base.proofs.Options.{by_option, by_option2}
 
 -- ---- one entity, from the answer r and the table t of its walk
 
 module _
     (bundle : Bytes) (selectors properties : List ℕ) (numbers : List Float) (for_labels multipolygons : Bool) (place kind id : ℕ)
-    (layer : LayerTag) (room : ℕ) (ks : List Key) (r : PropertyMaps) (t : List ℕ) (w : PropertyMaps × List ℕ) (e : (r, t) ≡ w) where
-  abbrev pushed : PropertyMaps × List ℕ → Gathered
+    (layer : Option ℤ) (room : ℕ) (ks : List Key) (r : Result ℕ Refusal) (t : List ℕ) (w : Result ℕ Refusal × List ℕ) (e : (r, t) ≡ w) where
+  abbrev pushed : Result ℕ Refusal × List ℕ → Gathered
   pushed x = push room ks (keys_in bundle selectors properties numbers for_labels multipolygons place kind id layer x)
 
-  pub entity_refused : (x : Refusal) → r ≡ NoMaps x → stopped x ≡ pushed w
+  pub entity_refused : (x : Refusal) → r ≡ Err x → stopped x ≡ pushed w
   unfolding push keys_in
   entity_refused x q = sym (ap pushed (via_with e q))
 
   module _
-      (n : ℕ) (q : r ≡ Maps n) (b : Bool) (p : b ≡ any_nan bundle properties numbers t kind (styled_rows bundle selectors t n)) where
+      (n : ℕ) (q : r ≡ Ok n) (b : Bool) (p : b ≡ any_nan bundle properties numbers t kind (styled_rows bundle selectors t n)) where
     pub entity_nan : b ≡ true → (x : Refusal) → x ≡ of_entity 9 multipolygons place → stopped x ≡ pushed w
     unfolding push keys_in pick
     entity_nan y x z =
-        let g : pushed (Maps n, t) ≡ stopped (of_entity 9 multipolygons place) = rw (← p, y) in
+        let g : pushed (Ok n, t) ≡ stopped (of_entity 9 multipolygons place) = rw (← p, y) in
         ap stopped z ∙ sym g ∙ sym (ap pushed (via_with e q))
 
     pub entity_pushed :
         b ≡ false
-        → (l : LayerTag)
+        → (l : Option ℤ)
         → l ≡ layer
         → (x : Gathered)
         → x
@@ -70,53 +62,53 @@ module _
         → x ≡ pushed w
     unfolding keys_in pick
     entity_pushed y l z x u =
-        let k : LayerTag → Gathered =
+        let k : Option ℤ → Gathered =
         λ l.
         push room ks
         (gathered
         (keys_from bundle properties numbers for_labels multipolygons place kind id l t 0 (styled_rows bundle selectors t n))) in
-        let g : pushed (Maps n, t) ≡ k layer = rw (← p, y) in
+        let g : pushed (Ok n, t) ≡ k layer = rw (← p, y) in
         u ∙ ap k z ∙ sym g ∙ sym (ap pushed (via_with e q))
 
 -- ---- an entity that is read ends behind its start and within the stream
 
-by_entity : {A : Type 0} (x : EntityAt) → (x ≡ NoEntity → A) → ((r : EntityRange) → x ≡ Whole r → A) → A
-by_entity NoEntity f g = f refl
-by_entity (Whole r) f g = g r refl
+by_entity : {A : Type 0} (x : Option EntityRange) → (x ≡ None → A) → ((r : EntityRange) → x ≡ Some r → A) → A
+by_entity None f g = f refl
+by_entity (Some r) f g = g r refl
 
-none_whole : {A : Type 0} {r : EntityRange} → NoEntity ≡ Whole r → A
+none_whole : {A : Type 0} {r : EntityRange} → None ≡ Some r → A
 none_whole e = absurd (let z : ◌≡◌ {A = ℕ} 0 1 = cc in omega arith)
 
-bad_next : {A : Type 0} {x : Refusal} {r : EntityRange} → BadNext x ≡ Next r → A
+bad_next : {A : Type 0} {x : Refusal} {r : EntityRange} → Err x ≡ Ok (Some r) → A
 bad_next e = absurd (let z : ◌≡◌ {A = ℕ} 0 1 = cc in omega arith)
 
-no_next : {A : Type 0} {r : EntityRange} → NoMore ≡ Next r → A
+no_next : {A : Type 0} {r : EntityRange} → ◌≡◌ {A = Result (Option EntityRange) Refusal} (Ok None) (Ok (Some r)) → A
 no_next e = absurd (let z : ◌≡◌ {A = ℕ} 0 1 = cc in omega arith)
 
-closed_is : (s : Bytes) (at : ℕ) (x r : EntityRange) → closed_of s at x ≡ Whole r → x ≡ r
+closed_is : (s : Bytes) (at : ℕ) (x r : EntityRange) → closed_of s at x ≡ Some r → x ≡ r
 unfolding closed_of pick
 closed_is s at x r e =
     by-test (ltb 65536 (x.end - at))
     (λ a. none_whole (rw a at e))
     (λ a.
     by-test (rising (map key_of (tags_of s x)))
-    (λ b. let y : Whole x ≡ Whole r = rw (a, b) at e in cc)
+    (λ b. let y : Some x ≡ Some r = rw (a, b) at e in cc)
     (λ b. none_whole (rw (a, b) at e)))
 
 tags_end :
     (s : Bytes) (at kind id from : ℕ) (r : EntityRange)
-    → tags_at s at kind id from ≡ Whole r
+    → tags_at s at kind id from ≡ Some r
     → (from < r.end) × (r.end ≤ length s)
-unfolding tags_at on-Number on-Place
+unfolding tags_at on_option
 tags_end s at kind id from r e =
-    by_number (number_at s from 256)
+    by_option2 (number_at s from 256)
     (λ a. none_whole (rw a at e))
     (λ n tags a.
-    by_place (skip_of n s tags)
+    by_option (skip_of n s tags)
     (λ b. none_whole (rw (a, b) at e))
     (λ end b.
     let x : EntityRange = record { kind = kind; id = id; tags = tags; count = n; end = end } in
-    let y : closed_of s at x ≡ Whole r = rw (a, b) at e in
+    let y : closed_of s at x ≡ Some r = rw (a, b) at e in
     let z : end ≡ r.end = ap (λ (q : EntityRange). q.end) (closed_is s at x r y) in
     let c = number_within s from 256 n tags a in
     let d = skip_within n s tags end b c.1 in
@@ -124,19 +116,19 @@ tags_end s at kind id from r e =
 
 entity_end :
     (sort : Sort) (s : Bytes) (at : ℕ) (r : EntityRange)
-    → entity_at sort s at ≡ Whole r
+    → entity_at sort s at ≡ Some r
     → (at < r.end) × (r.end ≤ length s)
-unfolding entity_at on-Number pick
+unfolding entity_at on_option pick
 entity_end sort s at r e =
     by-test (leb (length s) at)
     (λ a. none_whole (rw a at e))
     (λ a.
     by-test (kind_fits sort (get_or s at 0))
     (λ b.
-    by_number (number_at s (at + 1) 18446744073709551615)
+    by_option2 (number_at s (at + 1) 18446744073709551615)
     (λ c. none_whole (rw (a, b, c) at e))
     (λ id next c.
-    let y : tags_at s at (get_or s at 0) id next ≡ Whole r = rw (a, b, c) at e in
+    let y : tags_at s at (get_or s at 0) id next ≡ Some r = rw (a, b, c) at e in
     let d = number_within s (at + 1) 18446744073709551615 id next c in
     let g = tags_end s at (get_or s at 0) id next r y in
     (omega arith, g.1)))
@@ -144,9 +136,9 @@ entity_end sort s at r e =
 
 pub next_end :
     (sort : Sort) (multipolygons : Bool) (s : Bytes) (at place : ℕ) (r : EntityRange)
-    → next_of sort multipolygons s at place ≡ Next r
+    → next_of sort multipolygons s at place ≡ Ok (Some r)
     → (at < r.end) × (r.end ≤ length s) × (length s ≤ 1048576)
-unfolding next_of on-EntityAt pick
+unfolding next_of on_option pick
 next_end sort multipolygons s at place r e =
     by-test (ltb 1048576 (length s))
     (λ a. bad_next (rw a at e))
@@ -159,27 +151,27 @@ next_end sort multipolygons s at place r e =
     (λ x c.
     by-test (all_utf8 (tags_of s x))
     (λ d.
-    let y : Next x ≡ Next r = rw (a, b, c, d) at e in
+    let y : Ok (Some x) ≡ Ok (Some r) = rw (a, b, c, d) at e in
     let z : x ≡ r = cc in
-    let h = entity_end sort s at r (c ∙ ap Whole z) in
+    let h = entity_end sort s at r (c ∙ ap Some z) in
     (h.0, h.1, ltb-false 1048576 (length s) a))
     (λ d. bad_next (rw (a, b, c, d) at e)))))
 
 -- ---- a stream
 
 pub told_stopped :
-    (q : Gathering) (ls : List ℤ) (zs : List Float) (ws : List ℕ) (x : Gathered) (r : Refusal)
+    (q : Result ℕ Refusal) (ls : List ℤ) (zs : List Float) (ws : List ℕ) (x : Gathered) (r : Refusal)
     → told q ls zs ws ≡ x
-    → q ≡ Stopped r
+    → q ≡ Err r
     → x ≡ stopped r
-told_stopped q ls zs ws x r e m = sym e ∙ ap (λ (q : Gathering). told q ls zs ws) m
+told_stopped q ls zs ws x r e m = sym e ∙ ap (λ (q : Result ℕ Refusal). told q ls zs ws) m
 
 pub told_now :
-    (q : Gathering) (ls : List ℤ) (zs : List Float) (ws : List ℕ) (x : Gathered) (n : ℕ)
+    (q : Result ℕ Refusal) (ls : List ℤ) (zs : List Float) (ws : List ℕ) (x : Gathered) (n : ℕ)
     → told q ls zs ws ≡ x
-    → q ≡ Now n
+    → q ≡ Ok n
     → x ≡ gathered (keys_at ls zs ws n)
-told_now q ls zs ws x n e m = sym e ∙ ap (λ (q : Gathering). told q ls zs ws) m
+told_now q ls zs ws x n e m = sym e ∙ ap (λ (q : Result ℕ Refusal). told q ls zs ws) m
 
 abbrev spot : ℕ → ℕ → List Key → Spot
 spot at place ks = record { at = at; place = place; keys = ks }
@@ -204,28 +196,28 @@ module _
   unfolding gather_of
   gather_start = going_start turn (gathered sofar) (suc (length s)) (length s - 0) (spot 0 0 sofar) (omega arith)
 
-  module _ (at place : ℕ) (ks : List Key) (g : Left at place ks) (x : NextEntity) (e : x ≡ next_of sort multipolygons s at place) where
-    pub gather_bad : (r : Refusal) → x ≡ BadNext r → stopped r ≡ whole
-    unfolding gather_turn on-NextEntity
+  module _ (at place : ℕ) (ks : List Key) (g : Left at place ks) (x : Result (Option EntityRange) Refusal) (e : x ≡ next_of sort multipolygons s at place) where
+    pub gather_bad : (r : Refusal) → x ≡ Err r → stopped r ≡ whole
+    unfolding gather_turn on_result on_option
     gather_bad r q =
         let y : turn (spot at place ks) ≡ done (stopped r) = rw (via e q) in
         going_done turn (gathered sofar) (length s - at) (spot at place ks) (stopped r) whole g y
 
-    pub gather_end : x ≡ NoMore → gathered ks ≡ whole
-    unfolding gather_turn on-NextEntity
+    pub gather_end : x ≡ Ok None → gathered ks ≡ whole
+    unfolding gather_turn on_result on_option
     gather_end q =
         let y : turn (spot at place ks) ≡ done (gathered ks) = rw (via e q) in
         going_done turn (gathered sofar) (length s - at) (spot at place ks) (gathered ks) whole g y
 
-    module _ (r : EntityRange) (q : x ≡ Next r) where
+    module _ (r : EntityRange) (q : x ≡ Ok (Some r)) where
       pub gather_stopped : (z : Refusal) → push room ks (keys_of r place) ≡ stopped z → stopped z ≡ whole
-      unfolding gather_turn on-NextEntity on-Gathered
+      unfolding gather_turn on_result on_option on-Gathered
       gather_stopped z p =
           let y : turn (spot at place ks) ≡ done (stopped z) = rw (via e q, p) in
           going_done turn (gathered sofar) (length s - at) (spot at place ks) (stopped z) whole g y
 
       pub gather_more : (ks' : List Key) → push room ks (keys_of r place) ≡ gathered ks' → Left r.end (place + 1) ks'
-      unfolding gather_turn on-NextEntity on-Gathered
+      unfolding gather_turn on_result on_option on-Gathered
       gather_more ks' p =
           let y : turn (spot at place ks) ≡ more (spot r.end (place + 1) ks') = rw (via e q, p) in
           let h = next_end sort multipolygons s at place r (via e q) in

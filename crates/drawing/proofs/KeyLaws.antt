@@ -18,8 +18,6 @@ use Rattle.base.specs.Table.{zero_float}
 use Rattle.base.specs.declared.refusal.Refusal.{Refusal}
 use Rattle.cascade.specs.Clause.{star}
 use Rattle.cascade.specs.Map.{keep}
-use Rattle.tag_number.specs.declared.LayerTag.{LayerTag}
-use Rattle.tag_number.specs.declared.LayerTag.TheVariants.{NoLayer, Layer}
 use Rattle.decode.specs.Decode.{places}
 use Rattle.decode.proofs.Entries.{places_next}
 use Rattle.walk.specs.Rows.{numbers_at}
@@ -28,14 +26,15 @@ use Rattle.style.specs.Style.{z_index_in, foreground_in}
 use Rattle.styles.specs.Styles.{styled_rows}
 use Rattle.order.specs.Keys.{Key, key_at}
 use Rattle.drawing.specs.Gather.{Gathered, stopped, gathered, keys_at, layer_rank, fill_rank, stream_rank, z_of, key_of, keys_from, any_nan, push}
+use Rattle.std.specs.Prelude.{Option, Some, None}
 
 -- ---- ranks
 
-pub rank_none : (l : LayerTag) → l ≡ NoLayer → pos 0 ≡ layer_rank l
+pub rank_none : (l : Option ℤ) → l ≡ None → pos 0 ≡ layer_rank l
 unfolding layer_rank
 rank_none l e = sym (ap layer_rank e)
 
-pub rank_some : (l : LayerTag) (i : ℤ) → l ≡ Layer i → i ≡ layer_rank l
+pub rank_some : (l : Option ℤ) (i : ℤ) → l ≡ Some i → i ≡ layer_rank l
 unfolding layer_rank
 rank_some l i e = sym (ap layer_rank e)
 
@@ -261,7 +260,7 @@ module _ (room : ℕ) (ks : List Key) where
 
 module _
     (bundle : Bytes) (selectors properties : List ℕ) (numbers : List Float) (for_labels multipolygons : Bool) (place kind id : ℕ)
-    (layer : LayerTag) (t : List ℕ) (m room : ℕ) where
+    (layer : Option ℤ) (t : List ℕ) (m room : ℕ) where
   abbrev key : ℕ → ℕ → Key
   key = key_of bundle properties numbers for_labels multipolygons place kind id layer t
 
@@ -331,7 +330,7 @@ module _
 
 module _
     (bundle : Bytes) (properties : List ℕ) (numbers : List Float) (for_labels multipolygons : Bool) (place kind id : ℕ)
-    (layer : LayerTag) (t : List ℕ) where
+    (layer : Option ℤ) (t : List ℕ) where
   -- the key of layer i stored behind the first n of three tables
   pub key_stored :
       (k i : ℕ) (ls : List ℤ) (zs : List Float) (ws : List ℕ) (n : ℕ)

@@ -12,14 +12,14 @@ use Rattle.base.specs.Choice.{pick_split}
 use Rattle.base.specs.Refusal.{refusal}
 use Rattle.base.specs.Turns.{Turn, more, done}
 use Rattle.base.proofs.Loops.{Kept, turns_keep}
-use Rattle.entity.specs.Elim.{on-NextEntity}
 use Rattle.entity.specs.declared.EntityRange.{EntityRange}
-use Rattle.entity.specs.declared.NextEntity.{NextEntity}
-use Rattle.entity.specs.declared.NextEntity.TheVariants.{BadNext, NoMore, Next}
 use Rattle.entity.specs.declared.Sort.{Sort}
 use Rattle.cascade.specs.Sort.{sort}
 use Rattle.order.specs.Keys.{Key}
 use Rattle.drawing.specs.Gather.{Gathered, stopped, gathered, on-Gathered, push, Spot, gather_turn, gather_of}
+use Rattle.std.specs.Prelude.{Option, Some, None, Result, Ok, Err}
+use Rattle.base.specs.Option.{on_result_option, on_option, on_result}
+use Rattle.base.specs.declared.refusal.Refusal.{Refusal}
 
 abbrev Grown : ℕ → Gathered → Type 0
 Grown n (stopped r) = Unit {0}
@@ -45,14 +45,14 @@ module _ (n : ℕ) where
   kept_pushed (gathered ks) at place h = h
 
   kept_next :
-      (y : NextEntity) (ks : List Key) (k : EntityRange → Turn Spot Gathered)
+      (y : Result (Option EntityRange) Refusal) (ks : List Key) (k : EntityRange → Turn Spot Gathered)
       → n ≤ length ks
       → ((e : EntityRange) → Kept Behind (Grown n) (k e))
-      → Kept Behind (Grown n) (on-NextEntity y (λ r. done (stopped r)) (done (gathered ks)) k)
-  unfolding on-NextEntity
-  kept_next (BadNext r) ks k h f = tt
-  kept_next NoMore ks k h f = h
-  kept_next (Next e) ks k h f = f e
+      → Kept Behind (Grown n) (on_result_option y (λ r. done (stopped r)) (done (gathered ks)) k)
+  unfolding on_result on_option
+  kept_next (Err r) ks k h f = tt
+  kept_next (Ok None) ks k h f = h
+  kept_next (Ok (Some e)) ks k h f = f e
 
 module _
     (bundle : Bytes) (rules selectors tests properties : List ℕ) (numbers : List Float) (total zoom : ℕ) (for_labels : Bool)

@@ -1,30 +1,24 @@
 -- The keys of a drawing list, gathered entity by entity from tables, a bundle and streams that may be any bytes: refusals 7, 2, those
 -- of the walk, 9, then 25.
-use Rattle.std.specs.Prelude.{ℕ, suc, ◌+◌, ◌≤◌, Bool, true, false, List, [], ◌∷◌, ◌++◌, map, ltb, ℤ, pos, Float, length}
+use Rattle.std.specs.Prelude.{ℕ, suc, ◌+◌, ◌≤◌, Bool, true, false, List, [], ◌∷◌, ◌++◌, map, ltb, ℤ, pos, Float, length, Option, Some, None, Result, Ok, Err}
 use Rattle.std.specs.Float.Ieee.{is_nan}
 use Rattle.base.specs.Bytes.{Bytes}
 use Rattle.base.specs.Choice.{pick}
 use Rattle.base.specs.Refusal.{refusal, of_entity}
 use Rattle.base.specs.Turns.{Turn, more, done, turns}
 use Rattle.base.specs.declared.refusal.Refusal.{Refusal}
-use Rattle.entity.specs.Elim.{on-NextEntity}
 use Rattle.entity.specs.Layout.{value_of, next_of}
 use Rattle.entity.specs.declared.EntityRange.{EntityRange}
 use Rattle.entity.specs.declared.Sort.{Sort}
 use Rattle.cascade.specs.Style.{layer_tag}
 use Rattle.tag_number.specs.Told.{layer_told}
-use Rattle.tag_number.specs.declared.LayerTag.{LayerTag}
-use Rattle.tag_number.specs.declared.LayerTag.TheVariants.{NoLayer, Layer}
 use Rattle.decode.specs.Decode.{places}
 use Rattle.walk.specs.Maps.{walk_of}
 use Rattle.walk.specs.Rows.{numbers_at}
-use Rattle.walk.specs.declared.PropertyMaps.{PropertyMaps}
-use Rattle.walk.specs.declared.PropertyMaps.TheVariants.{NoMaps, Maps}
 use Rattle.style.specs.Style.{z_index_in, foreground_in}
 use Rattle.styles.specs.Styles.{styled_rows}
 use Rattle.order.specs.Keys.{Key, key_at}
-use Rattle.drawing.specs.declared.Gathering.{Gathering}
-use Rattle.drawing.specs.declared.Gathering.TheVariants.{Stopped, Now}
+use Rattle.base.specs.Option.{on_result_option}
 
 -- a refusal, or the keys so far
 pub data Gathered : Type 0 where
@@ -40,21 +34,21 @@ abbrev pub keys_at : List ℤ → List Float → List ℕ → ℕ → List Key
 keys_at layers zIndexes words n = map (key_at layers zIndexes words) (places 0 n)
 
 -- what an answer tells, beside the tables that it leaves: after a refusal they are not spoken of
-abbrev pub told : Gathering → List ℤ → List Float → List ℕ → Gathered
-told (Stopped r) layers zIndexes words = stopped r
-told (Now n) layers zIndexes words = gathered (keys_at layers zIndexes words n)
+abbrev pub told : Result ℕ Refusal → List ℤ → List Float → List ℕ → Gathered
+told (Err r) layers zIndexes words = stopped r
+told (Ok n) layers zIndexes words = gathered (keys_at layers zIndexes words n)
 
 -- a count that an answer hands on stays within the room
-abbrev pub IsBounded : ℕ → Gathering → Type 0
-IsBounded room (Stopped r) = Unit {0}
-IsBounded room (Now n) = n ≤ room
+abbrev pub IsBounded : ℕ → Result ℕ Refusal → Type 0
+IsBounded room (Err r) = Unit {0}
+IsBounded room (Ok n) = n ≤ room
 
 -- ---- the keys of one layer
 
 -- absent is 0
-unfoldable pub layer_rank : LayerTag → ℤ
-layer_rank NoLayer = pos 0
-layer_rank (Layer i) = i
+unfoldable pub layer_rank : Option ℤ → ℤ
+layer_rank None = pos 0
+layer_rank (Some i) = i
 
 -- background first, unless for labels
 unfoldable pub fill_rank : Bool → Bool → ℕ
@@ -68,7 +62,7 @@ module _ (bundle : Bytes) (properties : List ℕ) (numbers : List Float) where
   abbrev pub z_of : List ℕ → ℕ → ℕ → Float
   z_of t kind i = z_index_in bundle properties numbers (numbers_at t i) kind
 
-  module _ (for_labels multipolygons : Bool) (place kind id : ℕ) (layer : LayerTag) (t : List ℕ) where
+  module _ (for_labels multipolygons : Bool) (place kind id : ℕ) (layer : Option ℤ) (t : List ℕ) where
     -- layer i of a table of maps, which is styled layer k of its entity
     abbrev pub key_of : ℕ → ℕ → Key
     key_of k i =
@@ -93,9 +87,9 @@ module _ (bundle : Bytes) (properties : List ℕ) (numbers : List Float) where
 -- ---- the keys of one entity, from the answer of its walk
 
 module _ (bundle : Bytes) (selectors properties : List ℕ) (numbers : List Float) where
-  unfoldable pub keys_in : Bool → Bool → ℕ → ℕ → ℕ → LayerTag → PropertyMaps × List ℕ → Gathered
-  keys_in for_labels multipolygons place kind id layer (NoMaps r, t) = stopped r
-  keys_in for_labels multipolygons place kind id layer (Maps n, t) =
+  unfoldable pub keys_in : Bool → Bool → ℕ → ℕ → ℕ → Option ℤ → Result ℕ Refusal × List ℕ → Gathered
+  keys_in for_labels multipolygons place kind id layer (Err r, t) = stopped r
+  keys_in for_labels multipolygons place kind id layer (Ok n, t) =
       pick (any_nan bundle properties numbers t kind (styled_rows bundle selectors t n))
       (stopped (of_entity 9 multipolygons place))
       (gathered (keys_from bundle properties numbers for_labels multipolygons place kind id layer t 0 (styled_rows bundle selectors t n)))
@@ -129,7 +123,7 @@ module _
 
   unfoldable pub gather_turn : Spot → Turn Spot Gathered
   gather_turn x =
-      on-NextEntity (next_of sort multipolygons s x.at x.place) (λ r. done (stopped r)) (done (gathered x.keys)) λ e.
+      on_result_option (next_of sort multipolygons s x.at x.place) (λ r. done (stopped r)) (done (gathered x.keys)) λ e.
       on-Gathered (push room x.keys (keys_of e x.place)) (λ r. done (stopped r)) λ ks.
       more (record { at = e.end; place = x.place + 1; keys = ks })
 

@@ -1,5 +1,5 @@
 -- The drawing lists of nodes and of areas: 22, then the streams, then the sort; three words an entry, zeros behind them.
-use Rattle.std.specs.Prelude.{ℕ, ◌+◌, ◌*◌, ◌/◌, min, Bool, true, false, List, [], ◌∷◌, ◌++◌, map, Float, get_or, length, take, drop, replicate}
+use Rattle.std.specs.Prelude.{ℕ, ◌+◌, ◌*◌, ◌/◌, min, Bool, true, false, List, [], ◌∷◌, ◌++◌, map, Float, get_or, length, take, drop, replicate, Result, Ok, Err}
 use Rattle.base.specs.Bytes.{Bytes}
 use Rattle.base.specs.Choice.{pick}
 use Rattle.base.specs.Refusal.{refusal}
@@ -12,8 +12,7 @@ use Rattle.cascade.specs.Sort.{sort}
 use Rattle.style.specs.declared.Settings.{Settings}
 use Rattle.order.specs.Keys.{Key, key_le}
 use Rattle.drawing.specs.Gather.{Gathered, stopped, gathered, on-Gathered, gather_of}
-use Rattle.drawing.specs.declared.DrawList.{DrawList}
-use Rattle.drawing.specs.declared.DrawList.TheVariants.{NoList, Listed}
+use Rattle.base.specs.declared.refusal.Refusal.{Refusal}
 
 -- the entries that a list of so many words takes
 unfoldable pub room_of : ℕ → ℕ
@@ -31,9 +30,9 @@ abbrev pub entries_of : List Key → List ℕ
 entries_of ks = flat (map entry_words ks)
 
 -- the answer and the list, of so many words
-unfoldable pub listed : ℕ → Gathered → DrawList × List ℕ
-listed len (stopped r) = (NoList r, replicate len 0)
-listed len (gathered ks) = (Listed (length ks), padded 0 len (entries_of ks))
+unfoldable pub listed : ℕ → Gathered → Result ℕ Refusal × List ℕ
+listed len (stopped r) = (Err r, replicate len 0)
+listed len (gathered ks) = (Ok (length ks), padded 0 len (entries_of ks))
 
 -- in drawing order; of those that tie the multipolygons, which were gathered behind the first `ways`, come first
 abbrev pub ordered : ℕ → List Key → Gathered
@@ -42,7 +41,7 @@ ordered ways ks = gathered (sort key_le (drop ways ks ++ take ways ks))
 module _
     (bundle : Bytes) (rules selectors tests properties : List ℕ) (numbers : List Float) (n : Counts) (zoom : ℕ) (s : Settings)
     (len : ℕ) where
-  unfoldable pub nodes_of : Bytes → DrawList × List ℕ
+  unfoldable pub nodes_of : Bytes → Result ℕ Refusal × List ℕ
   nodes_of nodes =
       listed len
       (pick (tables_sound rules selectors tests properties numbers n (length bundle))
@@ -51,7 +50,7 @@ module _
       stopped (ordered 0))
       (stopped (refusal 22 0 0 0 0)))
 
-  unfoldable pub areas_of : Bytes → Bytes → DrawList × List ℕ
+  unfoldable pub areas_of : Bytes → Bytes → Result ℕ Refusal × List ℕ
   areas_of ways multipolygons =
       listed len
       (pick (tables_sound rules selectors tests properties numbers n (length bundle))

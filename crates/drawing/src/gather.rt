@@ -2,12 +2,11 @@
 ghost use Rattle.std.specs.Prelude.{◌≡◌, ◌≤◌, length};
 ghost use Rattle.drawing.specs.Gather.{keys_at, told, IsBounded, push, entity_keys, gather_of};
 
-use crate::Gathering;
 use crate::keys::{any_nan, push_layers};
 use base::refusal::{NAN_Z_INDEX, Refusal};
-use entity::{EntityRange, NextEntity, Sort, next_entity};
+use entity::{EntityRange, Sort, next_entity};
 use styles::parts::tag_layer;
-use walk::{PropertyMaps, walk_entity};
+use walk::walk_entity;
 
 // Stores the keys of an entity behind the first n: the refusals of the walk, 9, then 25.
 fn push_entity(
@@ -30,12 +29,12 @@ fn push_entity(
     zs: &mut [f64],
     words: &mut [u64],
     n: usize,
-) -> Gathering
+) -> Result<usize, Refusal>
     requires { (n ≤ room) × (room ≤ 4096) × (length layers.old ≡ 4096) × (length zs.old ≡ 4096) × (length words.old ≡ 20480) }
     ensures words_after { told result layers.new zs.new words.new ≡ push room (keys_at layers.old zs.old words.old n) (entity_keys bundle.now rules.now selectors.now tests.now properties.now numbers.now total zoom for_labels multipolygons s.now e place) }
     ensures IsBounded { IsBounded room result }
 {
-    match walk_entity(
+    let m = walk_entity(
         bundle,
         rules,
         selectors,
@@ -49,33 +48,29 @@ fn push_entity(
         multipolygons,
         place,
         maps,
-    ) {
-        PropertyMaps::NoMaps(r) => Gathering::Stopped(r),
-        PropertyMaps::Maps(m) => {
-            if any_nan(bundle, selectors, properties, numbers, maps, m, e.kind) {
-                return Gathering::Stopped(Refusal::of_entity(NAN_Z_INDEX, multipolygons, place));
-            }
-            push_layers(
-                bundle,
-                selectors,
-                properties,
-                numbers,
-                for_labels,
-                multipolygons,
-                place,
-                e.kind,
-                e.id,
-                tag_layer(s, e),
-                maps,
-                m,
-                room,
-                layers,
-                zs,
-                words,
-                n,
-            )
-        }
+    )?;
+    if any_nan(bundle, selectors, properties, numbers, maps, m, e.kind) {
+        return Err(Refusal::of_entity(NAN_Z_INDEX, multipolygons, place));
     }
+    push_layers(
+        bundle,
+        selectors,
+        properties,
+        numbers,
+        for_labels,
+        multipolygons,
+        place,
+        e.kind,
+        e.id,
+        tag_layer(s, e),
+        maps,
+        m,
+        room,
+        layers,
+        zs,
+        words,
+        n,
+    )
 }
 
 // Stores the keys of a stream behind the first n.
@@ -97,7 +92,7 @@ pub fn gather(
     zs: &mut [f64],
     words: &mut [u64],
     n: usize,
-) -> Gathering
+) -> Result<usize, Refusal>
     requires { (n ≤ room) × (room ≤ 4096) × (length layers.old ≡ 4096) × (length zs.old ≡ 4096) × (length words.old ≡ 20480) }
     ensures words_after { told result layers.new zs.new words.new ≡ gather_of bundle.now rules.now selectors.now tests.now properties.now numbers.now total zoom for_labels room sort multipolygons s.now (keys_at layers.old zs.old words.old n) }
     ensures IsBounded { IsBounded room result }
@@ -106,44 +101,30 @@ pub fn gather(
     let mut m = n;
     let mut at: usize = 0;
     let mut place: usize = 0;
-    loop {
-        match next_entity(s, sort, multipolygons, at, place) {
-            NextEntity::BadNext(r) => {
-                return Gathering::Stopped(r);
-            }
-            NextEntity::NoMore => {
-                return Gathering::Now(m);
-            }
-            NextEntity::Next(e) => match push_entity(
-                bundle,
-                rules,
-                selectors,
-                tests,
-                properties,
-                numbers,
-                total,
-                zoom,
-                for_labels,
-                room,
-                multipolygons,
-                s,
-                e,
-                place,
-                &mut maps,
-                layers,
-                zs,
-                words,
-                m,
-            ) {
-                Gathering::Stopped(r) => {
-                    return Gathering::Stopped(r);
-                }
-                Gathering::Now(k) => {
-                    m = k;
-                    at = e.end;
-                    place += 1;
-                }
-            },
-        }
+    while let Some(e) = next_entity(s, sort, multipolygons, at, place)? {
+        m = push_entity(
+            bundle,
+            rules,
+            selectors,
+            tests,
+            properties,
+            numbers,
+            total,
+            zoom,
+            for_labels,
+            room,
+            multipolygons,
+            s,
+            e,
+            place,
+            &mut maps,
+            layers,
+            zs,
+            words,
+            m,
+        )?;
+        at = e.end;
+        place += 1;
     }
+    Ok(m)
 }

@@ -3,12 +3,10 @@ ghost use Rattle.std.specs.Prelude.{◌≡◌, [], ◌∷◌, ◌++◌, ◌+◌,
 ghost use Rattle.styles.specs.Styles.{styled_rows};
 ghost use Rattle.drawing.specs.Gather.{gathered, keys_at, told, IsBounded, layer_rank, fill_rank, stream_rank, key_of, keys_from, any_nan, push};
 
-use crate::Gathering;
 use base::refusal::{DRAW_LIST_FULL, Refusal};
 use base::word_at;
 use style::{is_foreground_fill, z_index};
 use styles::parts::row_of;
-use tag_number::LayerTag;
 use walk::names::is_layer;
 
 // Stores the key of layer i of a table of maps, which is styled layer k of its entity, behind the first n.
@@ -21,7 +19,7 @@ fn put_key(
     place: usize,
     kind: u8,
     id: u64,
-    layer: LayerTag,
+    layer: Option<i64>,
     maps: &[u32; 4323],
     k: usize,
     i: usize,
@@ -47,12 +45,12 @@ fn put_key(
 }
 
 // A layer that is absent counts as 0.
-fn layer_rank(layer: LayerTag) -> i64
+fn layer_rank(layer: Option<i64>) -> i64
     ensures { result ≡ layer_rank layer }
 {
     match layer {
-        LayerTag::NoLayer => 0,
-        LayerTag::Layer(i) => i,
+        None => 0,
+        Some(i) => i,
     }
 }
 
@@ -116,7 +114,7 @@ pub fn push_layers(
     place: usize,
     kind: u8,
     id: u64,
-    layer: LayerTag,
+    layer: Option<i64>,
     maps: &[u32; 4323],
     m: usize,
     room: usize,
@@ -124,7 +122,7 @@ pub fn push_layers(
     zs: &mut [f64],
     words: &mut [u64],
     n: usize,
-) -> Gathering
+) -> Result<usize, Refusal>
     requires { (m ≤ 32) × (n ≤ room) × (room ≤ 4096) × (length layers.old ≡ 4096) × (length zs.old ≡ 4096) × (length words.old ≡ 20480) }
     ensures words_after { told result layers.new zs.new words.new ≡ push room (keys_at layers.old zs.old words.old n) (gathered (keys_from bundle.now properties.now numbers.now for_labels multipolygons place kind id layer maps.now 0 (styled_rows bundle.now selectors.now maps.now m))) }
     ensures IsBounded { IsBounded room result }
@@ -136,7 +134,7 @@ pub fn push_layers(
             i += 1;
         } else {
             if room <= n + k {
-                return Gathering::Stopped(Refusal::plain(DRAW_LIST_FULL));
+                return Err(Refusal::plain(DRAW_LIST_FULL));
             }
             put_key(
                 bundle,
@@ -160,5 +158,5 @@ pub fn push_layers(
             i += 1;
         }
     }
-    Gathering::Now(n + k)
+    Ok(n + k)
 }

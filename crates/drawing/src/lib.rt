@@ -16,20 +16,6 @@ mod gather;
 mod keys;
 mod list;
 
-// A refusal, or how many keys are gathered.
-#[derive(Clone, Copy)]
-pub enum Gathering {
-    Stopped(Refusal),
-    Now(usize),
-}
-
-// The refusal, or how many entries the list has.
-#[derive(Clone, Copy)]
-pub enum DrawList {
-    NoList(Refusal),
-    Listed(usize),
-}
-
 // The drawing list of a stream of nodes. An entry is 0, the node's place in the stream, and the place among its styled layers.
 pub fn style_entities(
     bundle: &[u8],
@@ -43,7 +29,7 @@ pub fn style_entities(
     settings: Settings,
     nodes: &[u8],
     list: &mut [u32],
-) -> DrawList
+) -> Result<usize, Refusal>
     ensures { (result, list.new) ≡ nodes_of bundle.now rules.now selectors.now tests.now properties.now numbers.now n zoom settings (length list.old) nodes.now }
 {
     zero_words(list);
@@ -56,13 +42,13 @@ pub fn style_entities(
         n,
         bundle.len(),
     ) {
-        return DrawList::NoList(Refusal::plain(TABLE_BROKEN));
+        return Err(Refusal::plain(TABLE_BROKEN));
     }
     let mut layers = [0i64; 4096];
     let mut zs = [0.0f64; 4096];
     let mut words = [0u64; 20480];
     let room = room_of(list.len());
-    match gather(
+    let k = gather(
         bundle,
         rules,
         selectors,
@@ -80,13 +66,9 @@ pub fn style_entities(
         &mut zs[..],
         &mut words[..],
         0,
-    ) {
-        Gathering::Stopped(r) => DrawList::NoList(r),
-        Gathering::Now(k) => {
-            write_list(&layers[..], &zs[..], &words[..], 0, k, list);
-            DrawList::Listed(k)
-        }
-    }
+    )?;
+    write_list(&layers[..], &zs[..], &words[..], 0, k, list);
+    Ok(k)
 }
 
 // The drawing list of ways and multipolygons, whose entries begin with 1. Ways are judged first; multipolygons come first where they tie.
@@ -103,7 +85,7 @@ pub fn style_areas(
     ways: &[u8],
     multipolygons: &[u8],
     list: &mut [u32],
-) -> DrawList
+) -> Result<usize, Refusal>
     ensures { (result, list.new) ≡ areas_of bundle.now rules.now selectors.now tests.now properties.now numbers.now n zoom settings (length list.old) ways.now multipolygons.now }
 {
     zero_words(list);
@@ -116,13 +98,13 @@ pub fn style_areas(
         n,
         bundle.len(),
     ) {
-        return DrawList::NoList(Refusal::plain(TABLE_BROKEN));
+        return Err(Refusal::plain(TABLE_BROKEN));
     }
     let mut layers = [0i64; 4096];
     let mut zs = [0.0f64; 4096];
     let mut words = [0u64; 20480];
     let room = room_of(list.len());
-    match gather(
+    let w = gather(
         bundle,
         rules,
         selectors,
@@ -140,34 +122,28 @@ pub fn style_areas(
         &mut zs[..],
         &mut words[..],
         0,
-    ) {
-        Gathering::Stopped(r) => DrawList::NoList(r),
-        Gathering::Now(w) => match gather(
-            bundle,
-            rules,
-            selectors,
-            tests,
-            properties,
-            numbers,
-            n.rules,
-            zoom,
-            settings.for_labels,
-            room,
-            Sort::Areas,
-            true,
-            multipolygons,
-            &mut layers[..],
-            &mut zs[..],
-            &mut words[..],
-            w,
-        ) {
-            Gathering::Stopped(r) => DrawList::NoList(r),
-            Gathering::Now(k) => {
-                write_list(&layers[..], &zs[..], &words[..], w, k, list);
-                DrawList::Listed(k)
-            }
-        },
-    }
+    )?;
+    let k = gather(
+        bundle,
+        rules,
+        selectors,
+        tests,
+        properties,
+        numbers,
+        n.rules,
+        zoom,
+        settings.for_labels,
+        room,
+        Sort::Areas,
+        true,
+        multipolygons,
+        &mut layers[..],
+        &mut zs[..],
+        &mut words[..],
+        w,
+    )?;
+    write_list(&layers[..], &zs[..], &words[..], w, k, list);
+    Ok(k)
 }
 
 // The entries that a list of so many words takes.

@@ -13,21 +13,17 @@ use Rattle.base.specs.Bytes.{Bytes, AllBytes}
 use Rattle.base.specs.Choice.{pick, by-test, and_right}
 use Rattle.base.specs.Entity.{Entity}
 use Rattle.base.specs.Map.{Entry, Map, key_of}
-use Rattle.group.specs.Elim.{on-Number, on-Place}
 use Rattle.group.specs.Number.{number_at, group_of}
 use Rattle.group.specs.Pair.{skip_of, pairs_at, entries_at, named, sized_bytes, pair_bytes, map_bytes}
-use Rattle.group.specs.declared.Number.{Number}
-use Rattle.group.specs.declared.Number.TheVariants.{Unread, Read}
-use Rattle.group.specs.declared.Place.{Place}
-use Rattle.group.specs.declared.Place.TheVariants.{Nowhere, At}
-use Rattle.group.proofs.Numbers.{by_number, number_read_at, number_written_at, number_most, number_within}
-use Rattle.group.proofs.Pairs.{AllShort, all_short, pairs_read, pairs_written, pairs_all, skip_within, by_place}
+use Rattle.group.proofs.Numbers.{number_read_at, number_written_at, number_most, number_within}
+use Rattle.group.proofs.Pairs.{AllShort, all_short, pairs_read, pairs_written, pairs_all, skip_within}
 use Rattle.entity.specs.Layout.{kind_fits, rising, tags_of, value_of, closed_of, tags_at, entity_at, entity_bytes, IsEntity}
 use Rattle.entity.specs.declared.Sort.{Sort}
 use Rattle.entity.specs.declared.Sort.TheVariants.{Any, Nodes, Areas}
 use Rattle.entity.specs.declared.EntityRange.{EntityRange}
-use Rattle.entity.specs.declared.EntityAt.{EntityAt}
-use Rattle.entity.specs.declared.EntityAt.TheVariants.{NoEntity, Whole}
+use Rattle.std.specs.Prelude.{Option, Some, None}
+use Rattle.base.proofs.Options.{by_option, by_option2, none_some}
+use Rattle.base.specs.Option.{on_option}
 
 -- what stands behind the first bytes of a text
 behind : (s x t : Bytes) (at : ℕ) → drop at s ≡ x ++ t → drop (at + length x) s ≡ t
@@ -42,18 +38,18 @@ whole_is :
     → at < length s
     → get_or s at 0 ≡ k
     → kind_fits sort k ≡ true
-    → number_at s (at + 1) 18446744073709551615 ≡ Read i p
-    → number_at s p 256 ≡ Read n q
-    → skip_of n s q ≡ At end
+    → number_at s (at + 1) 18446744073709551615 ≡ Some (i, p)
+    → number_at s p 256 ≡ Some (n, q)
+    → skip_of n s q ≡ Some end
     → end - at ≤ 65536
     → rising (map key_of (entries_at n s q)) ≡ true
-    → entity_at sort s at ≡ Whole (entity_range k i q n end)
-unfolding entity_at tags_at closed_of tags_of on-Number on-Place pick
+    → entity_at sort s at ≡ Some (entity_range k i q n end)
+unfolding entity_at tags_at closed_of tags_of on_option pick
 whole_is sort s at k i n p q end h e f a b c m g = rw (lt-leb (length s) at h, e, f, a, b, c, le-ltb 65536 (end - at) m, g)
 
 pub record EntityRead (sort : Sort) (s : Bytes) (at : ℕ) (e : Entity) (t : Bytes) : Type 0 where
   pub place : EntityRange
-  pub is : entity_at sort s at ≡ Whole place
+  pub is : entity_at sort s at ≡ Some place
   pub value : value_of s place ≡ e
   pub rest : drop place.end s ≡ t
   pub in_text : place.end ≤ length s
@@ -92,11 +88,11 @@ module _ (sort : Sort) (s : Bytes) (at : ℕ) (e : Entity) (t : Bytes) (ok : IsE
       let k : get_or s at 0 ≡ e.kind = cc in
       let d₂ : drop (at + 1) s ≡ group_of e.id ++ id_bytes = ap (λ (i : ℕ). drop i s) (add-one at) ∙ cc in
       let p = at + 1 + length (group_of e.id) in
-      let n₁ : number_at s (at + 1) 18446744073709551615 ≡ Read e.id p =
+      let n₁ : number_at s (at + 1) 18446744073709551615 ≡ Some (e.id, p) =
       number_read_at s id_bytes (at + 1) 18446744073709551615 e.id d₂ ok.id in
       let d₃ : drop p s ≡ id_bytes = behind s (group_of e.id) id_bytes (at + 1) d₂ in
       let q = p + length (group_of (length e.tags)) in
-      let n₂ : number_at s p 256 ≡ Read (length e.tags) q = number_read_at s tag_bytes p 256 (length e.tags) d₃ ok.few in
+      let n₂ : number_at s p 256 ≡ Some (length e.tags, q) = number_read_at s tag_bytes p 256 (length e.tags) d₃ ok.few in
       let d₄ : drop q s ≡ tag_bytes = behind s (group_of (length e.tags)) tag_bytes p d₃ in
       let r = pairs_read e.tags s q t d₄ tags_short in
       let w = number_within s p 256 (length e.tags) q n₂ in
@@ -125,48 +121,41 @@ pub record EntityWritten (sort : Sort) (s : Bytes) (at : ℕ) (r : EntityRange) 
   pub forward : at < r.end
   pub in_text : r.end ≤ length s
 
-by_entity : {A : Type 0} (x : EntityAt) → (x ≡ NoEntity → A) → ((r : EntityRange) → x ≡ Whole r → A) → A
-by_entity NoEntity f g = f refl
-by_entity (Whole r) f g = g r refl
-
-none_whole : {A : Type 0} {r : EntityRange} → NoEntity ≡ Whole r → A
-none_whole e = absurd (let z : ◌≡◌ {A = ℕ} 0 1 = cc in omega arith)
-
 -- the parts of an entity that is read
 record Parts (sort : Sort) (s : Bytes) (at : ℕ) (r : EntityRange) : Type 0 where
   inside : at < length s
   kind : get_or s at 0 ≡ r.kind
   fits : kind_fits sort r.kind ≡ true
   middle : ℕ
-  id : number_at s (at + 1) 18446744073709551615 ≡ Read r.id middle
-  count : number_at s middle 256 ≡ Read r.count r.tags
-  ends : skip_of r.count s r.tags ≡ At r.end
+  id : number_at s (at + 1) 18446744073709551615 ≡ Some (r.id, middle)
+  count : number_at s middle 256 ≡ Some (r.count, r.tags)
+  ends : skip_of r.count s r.tags ≡ Some r.end
   short : r.end - at ≤ 65536
   keys : rising (map key_of (entries_at r.count s r.tags)) ≡ true
 
-parts : (sort : Sort) (s : Bytes) (at : ℕ) (r : EntityRange) → entity_at sort s at ≡ Whole r → Parts sort s at r
-unfolding entity_at tags_at closed_of tags_of on-Number on-Place pick
+parts : (sort : Sort) (s : Bytes) (at : ℕ) (r : EntityRange) → entity_at sort s at ≡ Some r → Parts sort s at r
+unfolding entity_at tags_at closed_of tags_of on_option pick
 parts sort s at r e =
     by-test (leb (length s) at)
-    (λ a. none_whole (rw a at e))
+    (λ a. none_some (rw a at e))
     (λ a.
     by-test (kind_fits sort (get_or s at 0))
     (λ b.
-    by_number (number_at s (at + 1) 18446744073709551615)
-    (λ c. none_whole (rw (a, b, c) at e))
+    by_option2 (number_at s (at + 1) 18446744073709551615)
+    (λ c. none_some (rw (a, b, c) at e))
     (λ i p c.
-    by_number (number_at s p 256)
-    (λ d. none_whole (rw (a, b, c, d) at e))
+    by_option2 (number_at s p 256)
+    (λ d. none_some (rw (a, b, c, d) at e))
     (λ n q d.
-    by_place (skip_of n s q)
-    (λ f. none_whole (rw (a, b, c, d, f) at e))
+    by_option (skip_of n s q)
+    (λ f. none_some (rw (a, b, c, d, f) at e))
     (λ end f.
     by-test (ltb 65536 (end - at))
-    (λ g. none_whole (rw (a, b, c, d, f, g) at e))
+    (λ g. none_some (rw (a, b, c, d, f, g) at e))
     (λ g.
     by-test (rising (map key_of (entries_at n s q)))
     (λ h.
-    let x : Whole (entity_range (get_or s at 0) i q n end) ≡ Whole r = rw (a, b, c, d, f, g, h) at e in
+    let x : Some (entity_range (get_or s at 0) i q n end) ≡ Some r = rw (a, b, c, d, f, g, h) at e in
     let y : entity_range (get_or s at 0) i q n end ≡ r = cc in
     subst (Parts sort s at) y
     (record {
@@ -180,13 +169,13 @@ parts sort s at r e =
       short = ltb-false 65536 (end - at) g;
       keys = h;
     }))
-    (λ h. none_whole (rw (a, b, c, d, f, g, h) at e)))))))
-    (λ b. none_whole (rw (a, b) at e)))
+    (λ h. none_some (rw (a, b, c, d, f, g, h) at e)))))))
+    (λ b. none_some (rw (a, b) at e)))
 
 -- it ends behind its first byte and within the text, whatever the text is
 pub end_there :
     (sort : Sort) (s : Bytes) (at : ℕ) (r : EntityRange)
-    → entity_at sort s at ≡ Whole r
+    → entity_at sort s at ≡ Some r
     → (at < r.end) × (r.end ≤ length s)
 end_there sort s at r e =
     let p = parts sort s at r e in
@@ -200,7 +189,7 @@ kind_low Any k e = leb-true k 2 e
 kind_low Nodes k e = let z = eqb-true k 0 e in omega arith
 kind_low Areas k e = leb-true k 2 (and_right (leb 1 k) (leb k 2) e)
 
-module _ (sort : Sort) (s : Bytes) (at : ℕ) (r : EntityRange) (all : AllBytes s) (e : entity_at sort s at ≡ Whole r) where
+module _ (sort : Sort) (s : Bytes) (at : ℕ) (r : EntityRange) (all : AllBytes s) (e : entity_at sort s at ≡ Some r) where
   tags_count : length (entries_at r.count s r.tags) ≡ r.count
   unfolding entries_at
   tags_count =

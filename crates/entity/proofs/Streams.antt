@@ -11,15 +11,13 @@ use Rattle.base.specs.Bytes.{Bytes}
 use Rattle.base.specs.Choice.{pick}
 use Rattle.base.specs.Entity.{Entity}
 use Rattle.group.specs.Pair.{all_utf8}
-use Rattle.entity.specs.Elim.{on-EntityAt, on-NextEntity}
 use Rattle.entity.specs.Layout.{kind_fits, tags_of, value_of, entity_at, single_of, next_of, Stream, stream_from, stream_of, with_first, entity_bytes, IsEntity, stream_bytes}
 use Rattle.entity.specs.declared.Sort.{Sort}
 use Rattle.entity.specs.declared.Sort.TheVariants.{Any, Nodes, Areas}
 use Rattle.entity.specs.declared.EntityRange.{EntityRange}
-use Rattle.entity.specs.declared.EntityAt.TheVariants.{NoEntity, Whole}
-use Rattle.entity.specs.declared.SingleEntity.TheVariants.{BadEntity, OneEntity}
-use Rattle.entity.specs.declared.NextEntity.TheVariants.{BadNext, NoMore, Next}
 use Rattle.entity.proofs.Inverse.{EntityRead, entity_read}
+use Rattle.std.specs.Prelude.{Some, Ok, None}
+use Rattle.base.specs.Option.{on_option, on_result}
 
 -- an entity of a sort whose keys and values are UTF-8
 pub record Sound (sort : Sort) (e : Entity) : Type 0 where
@@ -41,18 +39,18 @@ tags_are s r e q = ap (λ (x : Entity). x.tags) q
 
 single_is :
     (s : Bytes) (r : EntityRange)
-    → entity_at Any s 0 ≡ Whole r
+    → entity_at Any s 0 ≡ Some r
     → r.end ≡ length s
     → all_utf8 (tags_of s r) ≡ true
-    → single_of s ≡ OneEntity r
-unfolding single_of on-EntityAt pick
+    → single_of s ≡ Ok r
+unfolding single_of on_option pick
 single_is s r e h u = rw (e, eq-eqb _ _ h, u)
 
 -- a single entity is read back
 pub single_read :
     (e : Entity)
     → Sound Any e
-    → (r : EntityRange) × ((single_of (entity_bytes e) ≡ OneEntity r) × (value_of (entity_bytes e) r ≡ e))
+    → (r : EntityRange) × ((single_of (entity_bytes e) ≡ Ok r) × (value_of (entity_bytes e) r ≡ e))
 single_read e ok =
     let s = entity_bytes e in
     let o = entity_read Any s 0 e [] ok.limits ok.fits (sym (append-nil s)) in
@@ -63,13 +61,13 @@ module _ (sort : Sort) (multipolygons : Bool) (s : Bytes) (short : length s ≤ 
   next_is :
       (at place : ℕ) (r : EntityRange)
       → at < length s
-      → entity_at sort s at ≡ Whole r
+      → entity_at sort s at ≡ Some r
       → all_utf8 (tags_of s r) ≡ true
-      → next_of sort multipolygons s at place ≡ Next r
-  unfolding next_of on-EntityAt pick
+      → next_of sort multipolygons s at place ≡ Ok (Some r)
+  unfolding next_of on_option pick
   next_is at place r h e u = rw (le-ltb 1048576 (length s) short, lt-leb (length s) at h, e, u)
 
-  next_none : (at place : ℕ) → length s ≤ at → next_of sort multipolygons s at place ≡ NoMore
+  next_none : (at place : ℕ) → length s ≤ at → next_of sort multipolygons s at place ≡ (Ok None)
   unfolding next_of pick
   next_none at place h = rw (le-ltb 1048576 (length s) short, le-leb (length s) at h)
 
@@ -79,7 +77,7 @@ module _ (sort : Sort) (multipolygons : Bool) (s : Bytes) (short : length s ≤ 
       → drop at s ≡ stream_bytes es
       → length (stream_bytes es) < n
       → stream_from n sort multipolygons s at place ≡ record { entities = es; stopped = none }
-  unfolding stream_from on-NextEntity stream_bytes
+  unfolding stream_from on_result on_option stream_bytes
   read_on es zero at place a d h = absurd (omega arith)
   read_on [] (suc n) at place a d h =
       let l = length-drop at s in

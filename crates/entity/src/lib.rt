@@ -9,7 +9,6 @@ ghost use Rattle.entity.specs.Layout.{kind_fits, rises_from, rising, closed_of, 
 
 use base::Range;
 use base::refusal::Refusal;
-use group::{Number, Pair, Part, Place};
 
 // Which kinds a caller takes.
 #[derive(Clone, Copy)]
@@ -29,123 +28,76 @@ pub struct EntityRange {
     pub end: usize,
 }
 
-// What stands at a place of a stream.
-#[derive(Clone, Copy)]
-pub enum EntityAt {
-    NoEntity,
-    Whole(EntityRange),
-}
-
-// A single entity, or the refusal.
-#[derive(Clone, Copy)]
-pub enum SingleEntity {
-    BadEntity(Refusal),
-    OneEntity(EntityRange),
-}
-
-// The next entity of a stream: the refusal, the end, or the entity.
-#[derive(Clone, Copy)]
-pub enum NextEntity {
-    BadNext(Refusal),
-    NoMore,
-    Next(EntityRange),
-}
-
 // Checks a single entity of any kind: its layout (refusal 7), then its UTF-8 (refusal 2).
-pub fn single_entity(s: &[u8]) -> SingleEntity
+pub fn single_entity(s: &[u8]) -> Result<EntityRange, Refusal>
     ensures { result ≡ single_of s.now }
 {
-    match entity_at(s, 0, Sort::Any) {
-        EntityAt::NoEntity => SingleEntity::BadEntity(Refusal::of_entity(
-            base::refusal::ENTITY_LAYOUT,
-            false,
-            0,
-        )),
-        EntityAt::Whole(e) => {
-            if e.end != s.len() {
-                return SingleEntity::BadEntity(Refusal::of_entity(
-                    base::refusal::ENTITY_LAYOUT,
-                    false,
-                    0,
-                ));
-            }
-            if group::pairs_utf8(s, e.tags, e.count) {
-                return SingleEntity::OneEntity(e);
-            }
-            SingleEntity::BadEntity(Refusal::of_entity(base::refusal::NOT_UTF8, false, 0))
-        }
+    let Some(e) = entity_at(s, 0, Sort::Any) else {
+        return Err(Refusal::of_entity(base::refusal::ENTITY_LAYOUT, false, 0));
+    };
+    if e.end != s.len() {
+        return Err(Refusal::of_entity(base::refusal::ENTITY_LAYOUT, false, 0));
     }
+    if group::pairs_utf8(s, e.tags, e.count) {
+        return Ok(e);
+    }
+    Err(Refusal::of_entity(base::refusal::NOT_UTF8, false, 0))
 }
 
-// The entity at a place of a stream, which is number `place` there, checked as a single one is.
-pub fn next_entity(s: &[u8], sort: Sort, multipolygons: bool, at: usize, place: usize) -> NextEntity
+// The next entity of a stream, which stands at a place and is number `place` there, checked as a single one is; None at the end.
+pub fn next_entity(
+    s: &[u8],
+    sort: Sort,
+    multipolygons: bool,
+    at: usize,
+    place: usize,
+) -> Result<Option<EntityRange>, Refusal>
     ensures { result ≡ next_of sort multipolygons s.now at place }
 {
     if 1048576 < s.len() {
-        return NextEntity::BadNext(Refusal::of_entity(
-            base::refusal::ENTITY_LAYOUT,
-            multipolygons,
-            0,
-        ));
+        return Err(Refusal::of_entity(base::refusal::ENTITY_LAYOUT, multipolygons, 0));
     }
     if s.len() <= at {
-        return NextEntity::NoMore;
+        return Ok(None);
     }
-    match entity_at(s, at, sort) {
-        EntityAt::NoEntity => {
-            NextEntity::BadNext(Refusal::of_entity(
-                base::refusal::ENTITY_LAYOUT,
-                multipolygons,
-                place,
-            ))
-        }
-        EntityAt::Whole(e) => {
-            if group::pairs_utf8(s, e.tags, e.count) {
-                return NextEntity::Next(e);
-            }
-            NextEntity::BadNext(Refusal::of_entity(base::refusal::NOT_UTF8, multipolygons, place))
-        }
+    let Some(e) = entity_at(s, at, sort) else {
+        return Err(Refusal::of_entity(base::refusal::ENTITY_LAYOUT, multipolygons, place));
+    };
+    if group::pairs_utf8(s, e.tags, e.count) {
+        return Ok(Some(e));
     }
+    Err(Refusal::of_entity(base::refusal::NOT_UTF8, multipolygons, place))
 }
 
 // Entity number k, from 0, of a stream, as a range.
-pub fn nth_entity(s: &[u8], sort: Sort, k: usize) -> Part
+pub fn nth_entity(s: &[u8], sort: Sort, k: usize) -> Option<Range>
     ensures { result ≡ nth_from k sort s.now 0 }
 {
-    let mut left = k;
     let mut at: usize = 0;
-    loop {
-        match entity_at(s, at, sort) {
-            EntityAt::NoEntity => {
-                return Part::Cut;
-            }
-            EntityAt::Whole(e) => {
-                let end = e.end;
-                if left == 0 {
-                    return Part::Found(Range { from: at, to: end });
-                }
-                left -= 1;
-                at = end;
-            }
-        }
+    for _ in 0..k {
+        let e = entity_at(s, at, sort)?;
+        at = e.end;
     }
+    let e = entity_at(s, at, sort)?;
+    Some(Range {
+        from: at,
+        to: e.end,
+    })
 }
 
 // The layout of the entity at a place: kind, id, tag count, tags.
-pub fn entity_at(s: &[u8], at: usize, sort: Sort) -> EntityAt
+pub fn entity_at(s: &[u8], at: usize, sort: Sort) -> Option<EntityRange>
     ensures { result ≡ entity_at sort s.now at }
 {
     if s.len() <= at {
-        return EntityAt::NoEntity;
+        return None;
     }
     let kind = s[at];
-    if kind_fits(sort, kind) {
-        return match group::number_at(s, at + 1, 18446744073709551615) {
-            Number::Unread => EntityAt::NoEntity,
-            Number::Read(id, next) => tags_at(s, at, kind, id, next),
-        };
+    if !kind_fits(sort, kind) {
+        return None;
     }
-    EntityAt::NoEntity
+    let (id, next) = group::number_at(s, at + 1, 18446744073709551615)?;
+    tags_at(s, at, kind, id, next)
 }
 
 // Whether a caller takes a kind.
@@ -160,42 +112,36 @@ fn kind_fits(sort: Sort, kind: u8) -> bool
 }
 
 // The tags of the entity at a place, from its tag count on.
-fn tags_at(s: &[u8], at: usize, kind: u8, id: u64, from: usize) -> EntityAt
+fn tags_at(s: &[u8], at: usize, kind: u8, id: u64, from: usize) -> Option<EntityRange>
     ensures { result ≡ tags_at s.now at kind id from }
 {
-    match group::number_at(s, from, 256) {
-        Number::Unread => EntityAt::NoEntity,
-        Number::Read(n, tags) => {
-            let count = n as usize;
-            match group::skip_pairs(s, tags, count) {
-                Place::Nowhere => EntityAt::NoEntity,
-                Place::At(end) => closed(
-                    s,
-                    at,
-                    EntityRange {
-                        kind,
-                        id,
-                        tags,
-                        count,
-                        end,
-                    },
-                ),
-            }
-        }
-    }
+    let (n, tags) = group::number_at(s, from, 256)?;
+    let count = n as usize;
+    let end = group::skip_pairs(s, tags, count)?;
+    closed(
+        s,
+        at,
+        EntityRange {
+            kind,
+            id,
+            tags,
+            count,
+            end,
+        },
+    )
 }
 
 // An entity has at most 65,536 bytes, and its keys rise.
-fn closed(s: &[u8], at: usize, e: EntityRange) -> EntityAt
+fn closed(s: &[u8], at: usize, e: EntityRange) -> Option<EntityRange>
     ensures { result ≡ closed_of s.now at e }
 {
     if 65536 < size(at, e.end) {
-        return EntityAt::NoEntity;
+        return None;
     }
     if keys_rise(s, e.tags, e.count) {
-        return EntityAt::Whole(e);
+        return Some(e);
     }
-    EntityAt::NoEntity
+    None
 }
 
 // How far a place is behind another.
@@ -212,10 +158,10 @@ fn keys_rise(s: &[u8], at: usize, count: usize) -> bool
     if count == 0 {
         return true;
     }
-    match group::pair_at(s, at) {
-        Pair::Broken => true,
-        Pair::Two(a, b) => rise_from(s, a, b.to, count - 1),
-    }
+    let Some((a, b)) = group::pair_at(s, at) else {
+        return true;
+    };
+    rise_from(s, a, b.to, count - 1)
 }
 
 // Whether the keys of so many tags rise from the key of a range on.
@@ -223,22 +169,16 @@ fn rise_from(s: &[u8], first: Range, at: usize, count: usize) -> bool
     ensures { result ≡ rises_from (within first s.now) (map key_of (entries_at count s.now at)) }
 {
     let mut last = first;
-    let mut left = count;
     let mut place = at;
-    while 0 < left {
-        match group::pair_at(s, place) {
-            Pair::Broken => {
-                return true;
-            }
-            Pair::Two(a, b) => {
-                if !base::bytes_precede(base::part(s, last), base::part(s, a)) {
-                    return false;
-                }
-                last = a;
-                place = b.to;
-                left -= 1;
-            }
+    for _ in 0..count {
+        let Some((a, b)) = group::pair_at(s, place) else {
+            return true;
+        };
+        if !base::bytes_precede(base::part(s, last), base::part(s, a)) {
+            return false;
         }
+        last = a;
+        place = b.to;
     }
     true
 }

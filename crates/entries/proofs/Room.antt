@@ -11,21 +11,20 @@ use borrow.Author.Tests.{lt-ltb, le-ltb}
 use Rattle.base.specs.Choice.{pick, if_true, if_false}
 use Rattle.base.specs.Table.{capacity_of, stored}
 use Rattle.entries.specs.Put.{put_of}
-use Rattle.entries.specs.declared.Put.{Put}
-use Rattle.entries.specs.declared.Put.TheVariants.{Full, Next}
+use Rattle.std.specs.Prelude.{Option, Some, None}
 
 module _ {A : Type 0} (k : ℕ) (t : List A) (n : ℕ) (vs : List A) where
-  pub full_bound : 16384 ≤ n → (Full, t) ≡ put_of k t n vs
+  pub full_bound : 16384 ≤ n → (None, t) ≡ put_of k t n vs
   unfolding put_of capacity_of
   full_bound h = if_false _ _ _ (le-ltb n (min 16384 (length t / k)) (omega arith)) refl
 
-  pub full_length : length t / k ≤ n → (Full, t) ≡ put_of k t n vs
+  pub full_length : length t / k ≤ n → (None, t) ≡ put_of k t n vs
   unfolding put_of capacity_of
   full_length h = if_false _ _ _ (le-ltb n (min 16384 (length t / k)) (omega arith)) refl
 
-  pub room : (u : List A) → n < 16384 → n < length t / k → u ≡ stored t (n * k) vs → (Next (n + 1), u) ≡ put_of k t n vs
+  pub room : (u : List A) → n < 16384 → n < length t / k → u ≡ stored t (n * k) vs → (Some (n + 1), u) ≡ put_of k t n vs
   unfolding put_of capacity_of
-  room u h g e = if_true _ _ _ (lt-ltb n (min 16384 (length t / k)) (omega arith)) (ap (λ (x : List A). (Next (n + 1), x)) e)
+  room u h g e = if_true _ _ _ (lt-ltb n (min 16384 (length t / k)) (omega arith)) (ap (λ (x : List A). (Some (n + 1), x)) e)
 
 -- the stores of an entry of eight, at the places that the code writes
 pub stored_eight :
@@ -43,7 +42,7 @@ stored_eight t i a b c d e f g h =
 
 -- words that are equal are stored alike
 pub same_words :
-    (t : List ℕ) (n : ℕ) (r : Put × List ℕ) {a b c d e f g h : ℕ} (a' b' c' d' e' f' g' h' : ℕ)
+    (t : List ℕ) (n : ℕ) (r : Option ℕ × List ℕ) {a b c d e f g h : ℕ} (a' b' c' d' e' f' g' h' : ℕ)
     → r ≡ put_of 8 t n (a ∷ b ∷ c ∷ d ∷ e ∷ f ∷ g ∷ h ∷ [])
     → a ≡ a'
     → b ≡ b'

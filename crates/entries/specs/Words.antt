@@ -1,38 +1,34 @@
 -- The words of each entry. docs/TABLES.md shows them as a page.
-use Rattle.std.specs.Prelude.{ℕ, ◌+◌, List, [], ◌∷◌}
+use Rattle.std.specs.Prelude.{ℕ, ◌+◌, List, [], ◌∷◌, Option, Some, None}
 use Rattle.base.specs.declared.Range.{Range}
 use Rattle.color.specs.declared.Color.{Color}
 use Rattle.table.specs.Value.{word}
-use Rattle.token_kind.specs.declared.ZoomLevel.{ZoomLevel}
-use Rattle.token_kind.specs.declared.ZoomLevel.TheVariants.{NoLevel, Level}
 use Rattle.table.specs.declared.Name.{Name}
 use Rattle.table.specs.declared.Name.TheVariants.{Plain, Joined}
-use Rattle.entries.specs.declared.LayerName.{LayerName}
-use Rattle.entries.specs.declared.LayerName.TheVariants.{Unnamed, Named}
 
 -- a rule is of kind 1
 abbrev pub rule_words : Range → Range → List ℕ
 rule_words ss ps = 1 ∷ word ss.from ∷ word ss.to ∷ word ps.from ∷ word ps.to ∷ 0 ∷ 0 ∷ 0 ∷ []
 
 -- a zoom level plus one, 0 for none
-abbrev pub level_word : ZoomLevel → ℕ
-level_word NoLevel = 0
-level_word (Level n) = n + 1
+abbrev pub level_word : Option ℕ → ℕ
+level_word None = 0
+level_word (Some n) = n + 1
 
-abbrev pub layer_word : LayerName → ℕ
-layer_word Unnamed = 0
-layer_word (Named r) = 1
+abbrev pub layer_word : Option Range → ℕ
+layer_word None = 0
+layer_word (Some r) = 1
 
-abbrev pub layer_from : LayerName → ℕ
-layer_from Unnamed = 0
-layer_from (Named r) = word r.from
+abbrev pub layer_from : Option Range → ℕ
+layer_from None = 0
+layer_from (Some r) = word r.from
 
-abbrev pub layer_to : LayerName → ℕ
-layer_to Unnamed = 0
-layer_to (Named r) = word r.to
+abbrev pub layer_to : Option Range → ℕ
+layer_to None = 0
+layer_to (Some r) = word r.to
 
 -- a selector's kind is its object type, 1 to 6
-abbrev pub selector_words : ℕ → ZoomLevel → ZoomLevel → Range → LayerName → List ℕ
+abbrev pub selector_words : ℕ → Option ℕ → Option ℕ → Range → Option Range → List ℕ
 selector_words kind min max tests layer =
     kind
     ∷ level_word min

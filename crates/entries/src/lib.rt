@@ -9,34 +9,19 @@ ghost use Rattle.entries.specs.Words.{level_word, joined_word, first_of, second_
 use base::Range;
 use color::Color;
 use table::Name;
-use token_kind::ZoomLevel;
-
-// Whether there was room for an entry, and the count with it.
-#[derive(Clone, Copy)]
-pub enum Put {
-    Full,
-    Next(usize),
-}
-
-// The layer that a selector names, if it names one.
-#[derive(Clone, Copy)]
-pub enum LayerName {
-    Unnamed,
-    Named(Range),
-}
 
 // Stores a number behind the first n, unless the table is full.
-pub fn put_number(t: &mut [f64], n: usize, x: f64) -> Put
+pub fn put_number(t: &mut [f64], n: usize, x: f64) -> Option<usize>
     ensures { (result, t.new) ≡ put_of 1 t.old n (x ∷ []) }
 {
     if 16384 <= n {
-        return Put::Full;
+        return None;
     }
     if t.len() <= n {
-        return Put::Full;
+        return None;
     }
     t[n] = x;
-    Put::Next(n + 1)
+    Some(n + 1)
 }
 
 // Stores an entry of eight words behind the first n, unless the table is full.
@@ -51,14 +36,14 @@ fn put_entry(
     f: u32,
     g: u32,
     h: u32,
-) -> Put
+) -> Option<usize>
     ensures { (result, t.new) ≡ put_of 8 t.old n (a ∷ b ∷ c ∷ d ∷ e ∷ f ∷ g ∷ h ∷ []) }
 {
     if 16384 <= n {
-        return Put::Full;
+        return None;
     }
     if t.len() / 8 <= n {
-        return Put::Full;
+        return None;
     }
     let i = n * 8;
     t[i] = a;
@@ -69,7 +54,7 @@ fn put_entry(
     t[i + 5] = f;
     t[i + 6] = g;
     t[i + 7] = h;
-    Put::Next(n + 1)
+    Some(n + 1)
 }
 
 // A number as a word: its low 32 bits.
@@ -80,7 +65,7 @@ fn low(x: usize) -> u32
 }
 
 // A rule: its selectors and its properties, as ranges of their tables.
-pub fn put_rule(t: &mut [u32], n: usize, selectors: Range, properties: Range) -> Put
+pub fn put_rule(t: &mut [u32], n: usize, selectors: Range, properties: Range) -> Option<usize>
     ensures { (result, t.new) ≡ put_of 8 t.old n (rule_words selectors properties) }
 {
     put_entry(
@@ -102,11 +87,11 @@ pub fn put_selector(
     t: &mut [u32],
     n: usize,
     kind: u8,
-    min: ZoomLevel,
-    max: ZoomLevel,
+    min: Option<u8>,
+    max: Option<u8>,
     tests: Range,
-    layer: LayerName,
-) -> Put
+    layer: Option<Range>,
+) -> Option<usize>
     ensures { (result, t.new) ≡ put_of 8 t.old n (selector_words kind min max tests layer) }
 {
     put_entry(
@@ -123,44 +108,44 @@ pub fn put_selector(
     )
 }
 
-fn level_word(z: ZoomLevel) -> u32
+fn level_word(z: Option<u8>) -> u32
     ensures { result ≡ level_word z }
 {
     match z {
-        ZoomLevel::NoLevel => 0,
-        ZoomLevel::Level(n) => n as u32 + 1,
+        None => 0,
+        Some(n) => n as u32 + 1,
     }
 }
 
-fn layer_word(l: LayerName) -> u32
+fn layer_word(l: Option<Range>) -> u32
     ensures { result ≡ layer_word l }
 {
     match l {
-        LayerName::Unnamed => 0,
-        LayerName::Named(_) => 1,
+        None => 0,
+        Some(_) => 1,
     }
 }
 
-fn layer_from(l: LayerName) -> u32
+fn layer_from(l: Option<Range>) -> u32
     ensures { result ≡ layer_from l }
 {
     match l {
-        LayerName::Unnamed => 0,
-        LayerName::Named(r) => low(r.from),
+        None => 0,
+        Some(r) => low(r.from),
     }
 }
 
-fn layer_to(l: LayerName) -> u32
+fn layer_to(l: Option<Range>) -> u32
     ensures { result ≡ layer_to l }
 {
     match l {
-        LayerName::Unnamed => 0,
-        LayerName::Named(r) => low(r.to),
+        None => 0,
+        Some(r) => low(r.to),
     }
 }
 
 // A test: its kind as a number, its key, and two numbers for its value.
-pub fn put_test(t: &mut [u32], n: usize, kind: u8, key: Name, a: usize, b: usize) -> Put
+pub fn put_test(t: &mut [u32], n: usize, kind: u8, key: Name, a: usize, b: usize) -> Option<usize>
     ensures { (result, t.new) ≡ put_of 8 t.old n (test_words kind key a b) }
 {
     let first = first_of(key);
@@ -224,7 +209,7 @@ pub fn put_property(
     b: usize,
     c: usize,
     d: usize,
-) -> Put
+) -> Option<usize>
     ensures { (result, t.new) ≡ put_of 8 t.old n (property_words kind name a b c d) }
 {
     put_entry(
@@ -242,7 +227,7 @@ pub fn put_property(
 }
 
 // A colour definition.
-pub fn put_color(t: &mut [u32], n: usize, name: Range, c: Color) -> Put
+pub fn put_color(t: &mut [u32], n: usize, name: Range, c: Color) -> Option<usize>
     ensures { (result, t.new) ≡ put_of 8 t.old n (color_words name c) }
 {
     put_entry(

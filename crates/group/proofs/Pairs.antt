@@ -13,71 +13,61 @@ use Rattle.base.specs.Map.{Entry, Map, entry}
 use Rattle.base.specs.Choice.{pick, by-test, clash}
 use Rattle.base.specs.declared.Range.{Range}
 use Rattle.utf8.specs.Utf8.{is_utf8}
-use Rattle.group.specs.Elim.{on-Number, on-Part, on-Pair, on-Place, Pair-Broken, Pair-Two}
 use Rattle.group.specs.Number.{number_at, group_of}
 use Rattle.group.specs.Pair.{range, sized_of, part_at, Ranges, ranges, pair_at, pairs_at, skip_of, nth_of, named, entries_at, all_utf8, sized_bytes, pair_bytes, map_bytes}
-use Rattle.group.specs.declared.Number.{Number}
-use Rattle.group.specs.declared.Number.TheVariants.{Unread, Read}
-use Rattle.group.specs.declared.Part.{Part}
-use Rattle.group.specs.declared.Part.TheVariants.{Cut, Found}
-use Rattle.group.specs.declared.Pair.{Pair}
-use Rattle.group.specs.declared.Pair.TheVariants.{Broken, Two}
-use Rattle.group.specs.declared.Place.{Place}
-use Rattle.group.specs.declared.Place.TheVariants.{Nowhere, At}
-use Rattle.group.proofs.Numbers.{by_number, number_read_at, number_written_at, number_within, group_length}
+use Rattle.group.proofs.Numbers.{number_read_at, number_written_at, number_within, group_length}
+use Rattle.std.specs.Prelude.{Option, Some, None}
+use Rattle.base.specs.Option.{on_option, on_option2, option_none, option_some}
+use Rattle.base.proofs.Options.{by_option, by_option2, none_some, some2_first, some2_second}
 
-pub by_pair : {A : Type 0} (x : Pair) → (x ≡ Broken → A) → ((a b : Range) → x ≡ Two a b → A) → A
-by_pair Broken f g = f refl
-by_pair (Two a b) f g = g a b refl
-
-pub by_place : {A : Type 0} (x : Place) → (x ≡ Nowhere → A) → ((p : ℕ) → x ≡ At p → A) → A
-by_place Nowhere f g = f refl
-by_place (At p) f g = g p refl
+-- what a loop that counts up has left
+pub less_one : (n k : ℕ) → n - (k + 1) ≡ n - k - 1
+less_one n k = omega arith
 
 -- a count that falls by one, where the definition goes by suc
 skip_step :
     (n : ℕ) (s : Bytes) (at : ℕ)
     → 0 < n
-    → skip_of n s at ≡ on-Pair (pair_at s at) Nowhere (λ a b. skip_of (n - 1) s b.to)
+    → skip_of n s at ≡ on_option2 (pair_at s at) None (λ a b. skip_of (n - 1) s b.to)
 unfolding skip_of
 skip_step zero s at h = absurd (omega arith)
 skip_step (suc n) s at h =
     let p : n ≡ suc n - 1 = omega arith in
-    ap (λ (m : ℕ). on-Pair (pair_at s at) Nowhere (λ a b. skip_of m s b.to)) p
+    ap (λ (m : ℕ). on_option2 (pair_at s at) None (λ a b. skip_of m s b.to)) p
 
 module _ (n : ℕ) (s : Bytes) (at : ℕ) where
-  pub skip_end : n ≤ 0 → At at ≡ skip_of n s at
+  pub skip_end : n ≤ 0 → Some at ≡ skip_of n s at
   unfolding skip_of
   skip_end h = let e : n ≡ 0 = omega arith in rw e
 
-  pub skip_broken : 0 < n → pair_at s at ≡ Broken → Nowhere ≡ skip_of n s at
-  skip_broken h e = Pair-Broken _ _ _ e refl ∙ sym (skip_step n s at h)
+  pub skip_broken : 0 < n → pair_at s at ≡ None → None ≡ skip_of n s at
+  skip_broken h e = option_none _ _ _ e refl ∙ sym (skip_step n s at h)
 
-  pub skip_two : (a b : Range) → 0 < n → pair_at s at ≡ Two a b → skip_of (n - 1) s b.to ≡ skip_of n s at
-  skip_two a b h e = Pair-Two _ _ _ e refl ∙ sym (skip_step n s at h)
+  pub skip_two : (a b : Range) → 0 < n → pair_at s at ≡ Some (a, b) → skip_of (n - 1) s b.to ≡ skip_of n s at
+  skip_two a b h e = option_some _ _ _ e refl ∙ sym (skip_step n s at h)
 
 -- the entries of a run, by its first pair
 entries_step :
     (n : ℕ) (s : Bytes) (at : ℕ)
     → 0 < n
-    → entries_at n s at ≡ on-Pair (pair_at s at) [] (λ a b. named s (ranges a b) ∷ entries_at (n - 1) s b.to)
-unfolding entries_at pairs_at on-Pair
+    → entries_at n s at ≡ on_option2 (pair_at s at) [] (λ a b. named s (ranges a b) ∷ entries_at (n - 1) s b.to)
+unfolding entries_at pairs_at on_option
 entries_step zero s at h = absurd (omega arith)
 entries_step (suc n) s at h =
     let p : n ≡ suc n - 1 = omega arith in
-    rw (sym p) (by_pair (pair_at s at) (λ q. rw q) (λ a b q. rw q))
+    rw (sym p) (by_option2 (pair_at s at) (λ q. rw q) (λ a b q. rw q))
 
 module _ (n : ℕ) (s : Bytes) (at : ℕ) where
   pub entries_end : n ≤ 0 → entries_at n s at ≡ []
   unfolding entries_at pairs_at
   entries_end h = let e : n ≡ 0 = omega arith in rw e
 
-  pub entries_broken : 0 < n → pair_at s at ≡ Broken → entries_at n s at ≡ []
-  unfolding on-Pair
+  pub entries_broken : 0 < n → pair_at s at ≡ None → entries_at n s at ≡ []
+  unfolding on_option
   entries_broken h e = entries_step n s at h ∙ (rw e)
 
-  pub entries_two : (a b : Range) → 0 < n → pair_at s at ≡ Two a b → entries_at n s at ≡ named s (ranges a b) ∷ entries_at (n - 1) s b.to
-  unfolding on-Pair
+  pub entries_two : (a b : Range) → 0 < n → pair_at s at ≡ Some (a, b) → entries_at n s at ≡ named s (ranges a b) ∷ entries_at (n - 1) s b.to
+  unfolding on_option
   entries_two a b h e = entries_step n s at h ∙ (rw e)
 
 -- whether the entries of a run are UTF-8, as the code goes through them
@@ -98,19 +88,6 @@ module _ (m m' : Map Bytes) (e : Entry Bytes) (q : m ≡ e ∷ m') where
   unfolding all_utf8 pick
   utf8_next k v = rw (q, k, v)
 
-by_part : {A : Type 0} (x : Part) → (x ≡ Cut → A) → ((r : Range) → x ≡ Found r → A) → A
-by_part Cut f g = f refl
-by_part (Found r) f g = g r refl
-
-cut_found : {A : Type 0} {r : Range} → Cut ≡ Found r → A
-cut_found e = absurd (let z : ◌≡◌ {A = ℕ} 0 1 = cc in omega arith)
-
-broken_two : {A : Type 0} {a b : Range} → Broken ≡ Two a b → A
-broken_two e = absurd (let z : ◌≡◌ {A = ℕ} 0 1 = cc in omega arith)
-
-nowhere_at : {A : Type 0} {p : ℕ} → Nowhere ≡ At p → A
-nowhere_at e = absurd (let z : ◌≡◌ {A = ℕ} 0 1 = cc in omega arith)
-
 -- a part that is read: its length and its bytes stand there, and its range lies within the text
 pub record Part-is (s : Bytes) (at : ℕ) (r : Range) : Type 0 where
   pub order : r.from ≤ r.to
@@ -121,26 +98,26 @@ pub record Part-is (s : Bytes) (at : ℕ) (r : Range) : Type 0 where
 pub record Part-of (s : Bytes) (at : ℕ) (r : Range) : Type 0 where
   pub count : ℕ
   pub from : ℕ
-  pub number : number_at s at 4294967295 ≡ Read count from
+  pub number : number_at s at 4294967295 ≡ Some (count, from)
   pub there : count ≤ length s - from
   pub is : range from (from + count) ≡ r
 
-part_of : (s : Bytes) (at : ℕ) (r : Range) → part_at s at ≡ Found r → Part-of s at r
-unfolding part_at on-Number sized_of pick
+part_of : (s : Bytes) (at : ℕ) (r : Range) → part_at s at ≡ Some r → Part-of s at r
+unfolding part_at on_option sized_of pick
 part_of s at r e =
-    by_number (number_at s at 4294967295)
-    (λ q. cut_found (rw q at e))
+    by_option2 (number_at s at 4294967295)
+    (λ q. none_some (rw q at e))
     (λ n f q.
     by-test (leb f (length s))
     (λ t.
     by-test (leb n (length s - f))
     (λ u.
-    let x : Found (range f (f + n)) ≡ Found r = rw (q, t, u) at e in
+    let x : Some (range f (f + n)) ≡ Some r = rw (q, t, u) at e in
     record { count = n; from = f; number = q; there = leb-true n (length s - f) u; is = cc })
-    (λ u. cut_found (rw (q, t, u) at e)))
-    (λ t. cut_found (rw (q, t) at e)))
+    (λ u. none_some (rw (q, t, u) at e)))
+    (λ t. none_some (rw (q, t) at e)))
 
-pub part_is : (s : Bytes) (at : ℕ) (r : Range) → part_at s at ≡ Found r → Part-is s at r
+pub part_is : (s : Bytes) (at : ℕ) (r : Range) → part_at s at ≡ Some r → Part-is s at r
 part_is s at r e =
     let o = part_of s at r e in
     let h = number_within s at 4294967295 o.count o.from o.number in
@@ -154,13 +131,13 @@ pub part_read :
     (s x t : Bytes) (at : ℕ)
     → drop at s ≡ sized_bytes x ++ t
     → length x ≤ 4294967295
-    → (r : Range) × ((part_at s at ≡ Found r) × ((within r s ≡ x) × (drop r.to s ≡ t)))
-unfolding part_at on-Number sized_of pick sized_bytes
+    → (r : Range) × ((part_at s at ≡ Some r) × ((within r s ≡ x) × (drop r.to s ≡ t)))
+unfolding part_at on_option sized_of pick sized_bytes
 part_read s x t at e h =
     let g = group_of (length x) in
     let f = at + length g in
     let d : drop at s ≡ g ++ (x ++ t) = e ∙ append_assoc g x t in
-    let n : number_at s at 4294967295 ≡ Read (length x) f = number_read_at s (x ++ t) at 4294967295 (length x) d h in
+    let n : number_at s at 4294967295 ≡ Some (length x, f) = number_read_at s (x ++ t) at 4294967295 (length x) d h in
     let l = ap length d ∙ length-append g (x ++ t) ∙ ap (λ (k : ℕ). length g + k) (length-append x t) in
     let m = length-drop at s in
     let p = group_length (length x) in
@@ -181,7 +158,7 @@ part_read s x t at e h =
 pub record Pair-read (s : Bytes) (at : ℕ) (e : Entry Bytes) (t : Bytes) : Type 0 where
   pub first : Range
   pub second : Range
-  pub is : pair_at s at ≡ Two first second
+  pub is : pair_at s at ≡ Some (first, second)
   pub bytes : named s (ranges first second) ≡ e
   pub rest : drop second.to s ≡ t
 
@@ -191,7 +168,7 @@ pub pair_read :
     → length e.key ≤ 4294967295
     → length e.value ≤ 4294967295
     → Pair-read s at e t
-unfolding pair_at on-Part pair_bytes
+unfolding pair_at on_option pair_bytes
 pair_read s at e t d h g =
     let k = sized_bytes e.key in
     let v = sized_bytes e.value in
@@ -214,8 +191,8 @@ pub pairs_read :
     (m : Map Bytes) (s : Bytes) (at : ℕ) (t : Bytes)
     → drop at s ≡ map_bytes m ++ t
     → AllShort m
-    → (p : ℕ) × ((skip_of (length m) s at ≡ At p) × ((entries_at (length m) s at ≡ m) × (drop p s ≡ t)))
-unfolding skip_of entries_at pairs_at map_bytes on-Pair
+    → (p : ℕ) × ((skip_of (length m) s at ≡ Some p) × ((entries_at (length m) s at ≡ m) × (drop p s ≡ t)))
+unfolding skip_of entries_at pairs_at map_bytes on_option
 pairs_read [] s at t d none = (at, (refl, (refl, d)))
 pairs_read (e ∷ m) s at t d (next h g a) =
     let r = pair_read s at e (map_bytes m ++ t) (d ∙ append_assoc (pair_bytes e) (map_bytes m) t) h g in
@@ -226,7 +203,7 @@ pairs_read (e ∷ m) s at t d (next h g a) =
 pub part_written :
     (s : Bytes) (at : ℕ) (r : Range)
     → AllBytes s
-    → part_at s at ≡ Found r
+    → part_at s at ≡ Some r
     → drop at s ≡ sized_bytes (within r s) ++ drop r.to s
 unfolding sized_bytes
 part_written s at r a e =
@@ -251,24 +228,24 @@ part_written s at r a e =
         rw w (sym (take-append-drop n (drop f s)) ∙ ap (λ (k : Bytes). take n (drop f s) ++ k) (drop-drop n f s))
 
 -- the two parts of a pair that is read
-pair_of : (s : Bytes) (at : ℕ) (a b : Range) → pair_at s at ≡ Two a b → (part_at s at ≡ Found a) × (part_at s a.to ≡ Found b)
-unfolding pair_at on-Part
+pair_of : (s : Bytes) (at : ℕ) (a b : Range) → pair_at s at ≡ Some (a, b) → (part_at s at ≡ Some a) × (part_at s a.to ≡ Some b)
+unfolding pair_at on_option
 pair_of s at a b e =
-    by_part (part_at s at)
-    (λ q. broken_two (rw q at e))
+    by_option (part_at s at)
+    (λ q. none_some (rw q at e))
     (λ r q.
-    by_part (part_at s r.to)
-    (λ p. broken_two (rw (q, p) at e))
+    by_option (part_at s r.to)
+    (λ p. none_some (rw (q, p) at e))
     (λ r₂ p.
-    let x : Two r r₂ ≡ Two a b = rw (q, p) at e in
-    let y : r ≡ a = cc in
-    let z : r₂ ≡ b = cc in
-    (q ∙ ap Found y, ap (λ (k : Range). part_at s k.to) (sym y) ∙ p ∙ ap Found z)))
+    let x : Some (r, r₂) ≡ Some (a, b) = rw (q, p) at e in
+    let y : r ≡ a = some2_first x in
+    let z : r₂ ≡ b = some2_second x in
+    (q ∙ ap Some y, ap (λ (k : Range). part_at s k.to) (sym y) ∙ p ∙ ap Some z)))
 
 pub pair_written :
     (s : Bytes) (at : ℕ) (a b : Range)
     → AllBytes s
-    → pair_at s at ≡ Two a b
+    → pair_at s at ≡ Some (a, b)
     → drop at s ≡ pair_bytes (named s (ranges a b)) ++ drop b.to s
 unfolding pair_bytes
 pair_written s at a b all e =
@@ -277,12 +254,12 @@ pair_written s at a b all e =
     ∙ ap (λ (k : Bytes). sized_bytes (within a s) ++ k) (part_written s a.to b all o.1)
     ∙ sym (append_assoc (sized_bytes (within a s)) (sized_bytes (within b s)) (drop b.to s))
 
-pub pairs_written : (n : ℕ) (s : Bytes) (at p : ℕ) → AllBytes s → skip_of n s at ≡ At p → drop at s ≡ map_bytes (entries_at n s at) ++ drop p s
-unfolding skip_of entries_at pairs_at map_bytes on-Pair
+pub pairs_written : (n : ℕ) (s : Bytes) (at p : ℕ) → AllBytes s → skip_of n s at ≡ Some p → drop at s ≡ map_bytes (entries_at n s at) ++ drop p s
+unfolding skip_of entries_at pairs_at map_bytes on_option
 pairs_written zero s at p all e = let y : at ≡ p = cc in ap (λ (k : ℕ). drop k s) y
 pairs_written (suc n) s at p all e =
-    by_pair (pair_at s at)
-    (λ q. nowhere_at (rw q at e))
+    by_option2 (pair_at s at)
+    (λ q. none_some (rw q at e))
     (λ a b q.
     rw q
     (pair_written s at a b all q
@@ -294,18 +271,18 @@ pub record Pair-is (s : Bytes) (at : ℕ) (a b : Range) : Type 0 where
   pub key : Part-is s at a
   pub value : Part-is s a.to b
 
-pub pair_is : (s : Bytes) (at : ℕ) (a b : Range) → pair_at s at ≡ Two a b → Pair-is s at a b
+pub pair_is : (s : Bytes) (at : ℕ) (a b : Range) → pair_at s at ≡ Some (a, b) → Pair-is s at a b
 pair_is s at a b e =
     let o = pair_of s at a b e in
     record { key = part_is s at a o.0; value = part_is s a.to b o.1 }
 
 -- where so many pairs can be skipped, they are all read, and none ends past the text
-pub pairs_all : (n : ℕ) (s : Bytes) (at p : ℕ) → skip_of n s at ≡ At p → length (pairs_at n s at) ≡ n
-unfolding skip_of pairs_at on-Pair
+pub pairs_all : (n : ℕ) (s : Bytes) (at p : ℕ) → skip_of n s at ≡ Some p → length (pairs_at n s at) ≡ n
+unfolding skip_of pairs_at on_option
 pairs_all zero s at p e = refl
 pairs_all (suc n) s at p e =
-    by_pair (pair_at s at)
-    (λ q. nowhere_at (rw q at e))
+    by_option2 (pair_at s at)
+    (λ q. none_some (rw q at e))
     (λ a b q. rw q (ap suc (pairs_all n s b.to p (rw q at e))))
 
 -- what the test of a part says of the bytes that its range names
@@ -313,38 +290,38 @@ pub part_utf8 : (x y : Bytes) (r t : Bool) → x ≡ y → r ≡ is_utf8 x → r
 part_utf8 x y r t e q h = ap is_utf8 (sym e) ∙ sym q ∙ h
 
 -- pair number k stands behind k pairs
-pub nth_past : (n : ℕ) (s : Bytes) (at k : ℕ) → n ≤ k → Broken ≡ nth_of (pairs_at n s at) k
-unfolding nth_of pairs_at on-Pair
+pub nth_past : (n : ℕ) (s : Bytes) (at k : ℕ) → n ≤ k → None ≡ nth_of (pairs_at n s at) k
+unfolding nth_of pairs_at on_option
 nth_past zero s at k h = refl
 nth_past (suc n) s at zero h = absurd (omega arith)
 nth_past (suc n) s at (suc k) h =
-    by_pair (pair_at s at) (λ q. rw q) (λ a b q. rw q (nth_past n s b.to k (omega arith)))
+    by_option2 (pair_at s at) (λ q. rw q) (λ a b q. rw q (nth_past n s b.to k (omega arith)))
 
-pub nth_nowhere : (n : ℕ) (s : Bytes) (at k : ℕ) → skip_of k s at ≡ Nowhere → Broken ≡ nth_of (pairs_at n s at) k
-unfolding nth_of pairs_at skip_of on-Pair
+pub nth_nowhere : (n : ℕ) (s : Bytes) (at k : ℕ) → skip_of k s at ≡ None → None ≡ nth_of (pairs_at n s at) k
+unfolding nth_of pairs_at skip_of on_option
 nth_nowhere zero s at k e = refl
-nth_nowhere (suc n) s at zero e = nowhere_at (sym e)
+nth_nowhere (suc n) s at zero e = none_some (sym e)
 nth_nowhere (suc n) s at (suc k) e =
-    by_pair (pair_at s at) (λ q. rw q) (λ a b q. rw q (nth_nowhere n s b.to k (rw q at e)))
+    by_option2 (pair_at s at) (λ q. rw q) (λ a b q. rw q (nth_nowhere n s b.to k (rw q at e)))
 
-pub nth_at : (n : ℕ) (s : Bytes) (at k p : ℕ) → k < n → skip_of k s at ≡ At p → pair_at s p ≡ nth_of (pairs_at n s at) k
-unfolding nth_of pairs_at skip_of on-Pair
+pub nth_at : (n : ℕ) (s : Bytes) (at k p : ℕ) → k < n → skip_of k s at ≡ Some p → pair_at s p ≡ nth_of (pairs_at n s at) k
+unfolding nth_of pairs_at skip_of on_option
 nth_at zero s at k p h e = absurd (omega arith)
 nth_at (suc n) s at zero p h e =
     let y : at ≡ p = cc in
-    rw (sym y) (by_pair (pair_at s at) (λ q. rw q) (λ a b q. rw q))
+    rw (sym y) (by_option2 (pair_at s at) (λ q. rw q) (λ a b q. rw q))
 nth_at (suc n) s at (suc k) p h e =
-    by_pair (pair_at s at)
-    (λ q. nowhere_at (rw q at e))
+    by_option2 (pair_at s at)
+    (λ q. none_some (rw q at e))
     (λ a b q. rw q (nth_at n s b.to k p (omega arith) (rw q at e)))
 
 -- the place behind pairs lies within the text
-pub skip_within : (n : ℕ) (s : Bytes) (at p : ℕ) → skip_of n s at ≡ At p → at ≤ length s → (at ≤ p) × (p ≤ length s)
-unfolding skip_of on-Pair
+pub skip_within : (n : ℕ) (s : Bytes) (at p : ℕ) → skip_of n s at ≡ Some p → at ≤ length s → (at ≤ p) × (p ≤ length s)
+unfolding skip_of on_option
 skip_within zero s at p e h = let y : at ≡ p = cc in (omega arith, omega arith)
 skip_within (suc n) s at p e h =
-    by_pair (pair_at s at)
-    (λ q. nowhere_at (rw q at e))
+    by_option2 (pair_at s at)
+    (λ q. none_some (rw q at e))
     (λ a b q.
     let o = pair_is s at a b q in
     let k = o.key in

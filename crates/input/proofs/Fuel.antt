@@ -7,6 +7,7 @@ use lib.ListN.{length}
 use Rattle.base.specs.Bytes.{Bytes}
 use Rattle.base.specs.Choice.{different}
 use Rattle.base.specs.Refusal.{refusal}
+use Rattle.base.specs.declared.refusal.Refusal.{Refusal}
 use Rattle.cursor.specs.declared.Cursor.{Cursor}
 use Rattle.token.specs.Elim.{on-Step}
 use Rattle.token.specs.Step.{step_of}
@@ -19,9 +20,10 @@ use Rattle.grammar.specs.Input.{broken, end, token, Store}
 use Rattle.grammar.specs.Stream.{Gives, here, ◌▸◌, Fueled}
 use Rattle.input.specs.Source.{Spot, spot, next_at, input_of}
 use Rattle.input.specs.Text.{placed, text_of, next_of, token_of, place, refusal_at, reached_at, left, mandatory_of}
-use Rattle.input.specs.declared.Mandatory.TheVariants.{NoToken, Got}
 use Rattle.input.specs.declared.Place.{Place}
 use Rattle.input.specs.declared.Source.{Source}
+use Rattle.std.specs.Prelude.{Result, Ok, Err}
+use Rattle.base.proofs.Options.{ok3_third}
 
 module _ (bundle : Bytes) where
   pub next_moves :
@@ -48,7 +50,7 @@ module _ (bundle : Bytes) where
 
   pub mandatory_moves :
       (s : Source) (c d : Cursor) (t : Token) (o : Place)
-      → mandatory_of bundle s c ≡ Got t o d
+      → mandatory_of bundle s c ≡ Ok (t, o, d)
       → left bundle s d < left bundle s c
   unfolding mandatory_of on-Step
   mandatory_moves s c d t o e = go (next_of bundle s c) refl e
@@ -56,16 +58,17 @@ module _ (bundle : Bytes) where
       go :
           (x : Step)
           → next_of bundle s c ≡ x
-          → on-Step x
-          (λ reason line character. NoToken (refusal 3 reason s.number line character))
-          (λ d. NoToken (refusal_at 4 1 (reached_at s d)))
-          (λ t line character d. Got t (place s.number line character) d)
-          ≡ Got t o d
+          → ◌≡◌ {A = Result (Token × Place × Cursor) Refusal}
+          (on-Step x
+          (λ reason line character. Err (refusal 3 reason s.number line character))
+          (λ d. Err (refusal_at 4 1 (reached_at s d)))
+          (λ t line character d. Ok (t, place s.number line character, d)))
+          (Ok (t, o, d))
           → left bundle s d < left bundle s c
       go (Wrong r l k) q e = different cc
       go (End f) q e = different cc
       go (Took u l k f) q e =
-          let p : f ≡ d = cc in
+          let p : f ≡ d = ok3_third e in
           next_moves s c d u l k (subst (λ f. next_of bundle s c ≡ Took u l k f) p q)
 
   -- a token of a spot leads to a spot of the same text, with less of it left

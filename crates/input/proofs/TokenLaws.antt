@@ -3,7 +3,7 @@ use Prim.Native.Nat.{ℕ, zero, suc}
 use mathlib.Core.Path.{◌≡◌, refl, sym, ap, subst, ◌∙◌}
 use mathlib.Core.Bool.{Bool, true, false, not, cond}
 use mathlib.Core.List.{List, [], ◌∷◌}
-use mathlib.Core.Option.{Option}
+use mathlib.Core.Option.{Option as Option'}
 use lib.Dec.{T}
 use lib.Ieee.{Float}
 use types.Run.{OneOf, miss}
@@ -15,7 +15,6 @@ use Rattle.base.specs.declared.Range.{Range}
 use Rattle.base.specs.declared.refusal.Refusal.{Refusal}
 use Rattle.color.specs.declared.Color.{Color as Shade}
 use Rattle.token_kind.specs.contracts.Token.{the_type}
-use Rattle.token_kind.specs.declared.ZoomLevel.{ZoomLevel}
 use Rattle.token_kind.specs.declared.Token.{Token}
 use Rattle.token_kind.specs.declared.Token.TheVariants.{
   Import,
@@ -50,10 +49,9 @@ use Rattle.grammar.specs.View.{is_sign, on_import, on_identifier, on_string, on_
 use Rattle.grammar.proofs.ViewLaws.{sign_is, import_holds, identifier_holds, string_holds, color_ref_holds, number_holds, zoom_range_holds, color_holds}
 use Rattle.cursor.specs.declared.Cursor.{Cursor}
 use Rattle.input.specs.Text.{placed, name_in, range_of, token_of}
-use Rattle.input.specs.Elim.{on-Mandatory, Mandatory-Got}
-use Rattle.input.specs.declared.Mandatory.{Mandatory}
-use Rattle.input.specs.declared.Mandatory.TheVariants.{Got}
 use Rattle.input.specs.declared.Place.{Place}
+use Rattle.std.specs.Prelude.{Result, Ok, Option}
+use Rattle.base.specs.Option.{on_three, on_result3, result_ok}
 
 abbrev pub sign_tag : Sign → ℕ
 sign_tag left_paren = 7
@@ -94,7 +92,7 @@ pub record Signed (t : Token) : Type 0 where
   pub stays : (from : ℕ) → t ≡ placed from t
 
 -- what holds of the tokens with contents and of all signs holds of every token
-module _ (P : Token → Type 0) (import-case : (r : Range) → P (Import r)) (identifier-case : (r : Range) → P (Identifier r)) (text-case : (r : Range) → P (Text r)) (number-case : (x : Float) → P (Number x)) (zoom-case : (a b : ZoomLevel) → P (ZoomRange a b)) (ref-case : (r : Range) → P (ColorRef r)) (color-case : (c : Shade) → P (Color c)) (sign-case : (t : Token) → Signed t → P t) where
+module _ (P : Token → Type 0) (import-case : (r : Range) → P (Import r)) (identifier-case : (r : Range) → P (Identifier r)) (text-case : (r : Range) → P (Text r)) (number-case : (x : Float) → P (Number x)) (zoom-case : (a b : Option ℕ) → P (ZoomRange a b)) (ref-case : (r : Range) → P (ColorRef r)) (color-case : (c : Shade) → P (Color c)) (sign-case : (t : Token) → Signed t → P t) where
   pub by_token : (t : Token) → P t
   unfolding token_of
   by_token (Import r) = import-case r
@@ -188,7 +186,7 @@ module _ (bundle : Bytes) (taken : List ℕ) (t : Token) (h : OneOf (others take
     pub not_color_ref : (f : Name → B) (g : B) → T (not (has_key (others taken) 5)) → Q g → Q (on_color_ref (token_of bundle t) f g)
     not_color_ref f g n q = color_ref_holds Q (token_of bundle t) f g (λ x e. absurd (other_tag 5 n (ap tag_of' e))) q
 
-    pub not_zoom_range : (f : Option ℕ → Option ℕ → B) (g : B) → T (not (has_key (others taken) 4)) → Q g → Q (on_zoom_range (token_of bundle t) f g)
+    pub not_zoom_range : (f : Option' ℕ → Option' ℕ → B) (g : B) → T (not (has_key (others taken) 4)) → Q g → Q (on_zoom_range (token_of bundle t) f g)
     not_zoom_range f g n q = zoom_range_holds Q (token_of bundle t) f g (λ x y e. absurd (other_tag 4 n (ap tag_of' e))) q
 
     pub not_color : (f : Shade → B) (g : B) → T (not (has_key (others taken) 6)) → Q g → Q (on_color (token_of bundle t) f g)
@@ -207,9 +205,9 @@ pub sign_known : (bundle : Bytes) (g : Sign) {t v : Token} → t ≡ v → is_si
 sign_known bundle g e h = ap (λ t. is_sign g (token_of bundle t)) e ∙ h
 
 pub got_known :
-    {B : Type 0} (x : Mandatory) (k0 : Refusal → B) (k1 : Token → Place → Cursor → B) {t v : Token} {o : Place} {d : Cursor} {y : B}
-    → x ≡ Got t o d
+    {B : Type 0} (x : Result (Token × Place × Cursor) Refusal) (k0 : Refusal → B) (k1 : Token → Place → Cursor → B) {t v : Token} {o : Place} {d : Cursor} {y : B}
+    → x ≡ Ok (t, o, d)
     → t ≡ v
     → y ≡ k1 v o d
-    → y ≡ on-Mandatory x k0 k1
-got_known x k0 k1 {o = o} {d = d} e f h = Mandatory-Got x k0 k1 (e ∙ ap (λ t. Got t o d) f) h
+    → y ≡ on_result3 x k0 k1
+got_known x k0 k1 {o = o} {d = d} e f h = result_ok x k0 (on_three k1) (e ∙ ap (λ t. Ok (t, o, d)) f) h

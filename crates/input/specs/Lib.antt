@@ -1,3 +1,2 @@
-pub mod Elim
 pub mod Text
 pub mod Source

@@ -6,7 +6,6 @@ use Rattle.base.specs.Refusal.{refusal}
 use Rattle.base.specs.declared.Range.{Range}
 use Rattle.base.specs.declared.refusal.Refusal.{Refusal}
 use Rattle.bundle.specs.Bundle.{find_of}
-use Rattle.bundle.specs.Elim.{on-FoundText}
 use Rattle.cursor.specs.Cursor.{start}
 use Rattle.cursor.specs.declared.Cursor.{Cursor}
 use Rattle.token.specs.Elim.{on-Step}
@@ -15,6 +14,7 @@ use Rattle.grammar.specs.Input.{Next, broken, end, token, Store, Input, number_o
 use Rattle.input.specs.Text.{next_of, token_of, place, reached_at, refusal_at, left}
 use Rattle.input.specs.declared.Place.{Place}
 use Rattle.input.specs.declared.Source.{Source}
+use Rattle.base.specs.Option.{on_option2}
 
 -- a text, and a cursor in it
 pub record Spot : Type 0 where
@@ -42,7 +42,7 @@ module _ (bundle : Bytes) where
         next = λ p. next_at p.source p.cursor;
         reached = λ p. reached_at p.source p.cursor;
         why = λ r o. refusal_at (number_of r).0 (number_of r).1 o;
-        text = λ a. on-FoundText (find_of bundle a) none λ k r. some (spot (source k r) start);
+        text = λ a. on_option2 (find_of bundle a) none λ k r. some (spot (source k r) start);
         fuel = λ p. suc (left bundle p.source p.cursor);
         countable = is_whole;
         store = s;

@@ -1,6 +1,6 @@
 -- A text of the bundle as the grammar's reader sees it: its tokens, with names as ranges of the bundle.
-use Rattle.std.specs.Prelude.{ℕ, ◌+◌, ◌-◌, ◌<◌, ◌≡◌, cond, List, [], ◌∷◌, length}
-use Rattle.std.proofs.Math.Option.{Option, none, some}
+use Rattle.std.specs.Prelude.{ℕ, ◌+◌, ◌-◌, ◌<◌, ◌≡◌, cond, List, [], ◌∷◌, length, Float, Result, Ok, Err, Option, Some, None}
+use Rattle.std.proofs.Math.Option.{Option as Option', none, some}
 use Rattle.base.specs.Bytes.{Bytes, within}
 use Rattle.base.specs.Choice.{pick}
 use Rattle.base.specs.Refusal.{refusal}
@@ -13,8 +13,6 @@ use Rattle.token.specs.Elim.{on-Step}
 use Rattle.token.specs.Step.{step_of}
 use Rattle.token.specs.declared.Step.{Step}
 use Rattle.token.specs.declared.Step.TheVariants.{Wrong, End, Took}
-use Rattle.token_kind.specs.declared.ZoomLevel.{ZoomLevel}
-use Rattle.token_kind.specs.declared.ZoomLevel.TheVariants.{NoLevel, Level}
 use Rattle.token_kind.specs.declared.Token.{Token}
 use Rattle.token_kind.specs.declared.Token.TheVariants.{
   Import,
@@ -48,19 +46,9 @@ use Rattle.table.specs.declared.Name.{Name}
 use Rattle.table.specs.declared.Name.TheVariants.{Plain, Joined}
 use Rattle.grammar.specs.Token.{Name as Name', joined, Sign, Token as Token', import, identifier, string, color_ref, number, zoom_range, color, sign, left_paren, right_paren, left_bracket, right_bracket, left_brace, right_brace, equal_sign, not_equal_sign, less_sign, greater_sign, less_or_equal_sign, greater_or_equal_sign, regex_match, bang, question_mark, colon, double_colon, semi_colon, comma}
 use Rattle.grammar.specs.View.{is_sign, on_identifier, on_number}
-use Rattle.input.specs.Elim.{on-Mandatory, on-Word}
 use Rattle.input.specs.declared.Source.{Source}
 use Rattle.input.specs.declared.Place.{Place}
-use Rattle.input.specs.declared.Mandatory.{Mandatory}
-use Rattle.input.specs.declared.Mandatory.TheVariants.{NoToken, Got}
-use Rattle.input.specs.declared.Past.{Past}
-use Rattle.input.specs.declared.Past.TheVariants.{Another, Beyond}
-use Rattle.input.specs.declared.Word.{Word}
-use Rattle.input.specs.declared.Word.TheVariants.{NoWord, IsWord}
-use Rattle.input.specs.declared.Key.{Key}
-use Rattle.input.specs.declared.Key.TheVariants.{NoKey, IsKey}
-use Rattle.input.specs.declared.Figure.{Figure}
-use Rattle.input.specs.declared.Figure.TheVariants.{NoFigure, IsFigure}
+use Rattle.base.specs.Option.{on_result2, on_result3}
 
 -- ---- tokens: the ranges of a text that begins at a place of the bundle become ranges of the bundle
 
@@ -123,9 +111,9 @@ range_of a = first_of a.ranges
     first_of [] = record { from = 0; to = 0 }
     first_of (r ∷ rs) = r
 
-abbrev pub level_of : ZoomLevel → Option ℕ
-level_of NoLevel = none
-level_of (Level n) = some n
+abbrev pub level_of : Option ℕ → Option' ℕ
+level_of None = none
+level_of (Some n) = some n
 
 unfoldable pub token_of : Bytes → Token → Token'
 token_of bundle (Import r) = import (name_in bundle r)
@@ -177,37 +165,37 @@ left bundle s c = length (text_of bundle s) - c.at
 
 -- ---- the small readers
 
-unfoldable pub mandatory_of : Bytes → Source → Cursor → Mandatory
+unfoldable pub mandatory_of : Bytes → Source → Cursor → Result (Token × Place × Cursor) Refusal
 mandatory_of bundle s c =
     on-Step (next_of bundle s c)
-    (λ reason line character. NoToken (refusal 3 reason s.number line character))
-    (λ d. NoToken (refusal_at 4 1 (reached_at s d)))
-    λ t line character d. Got t (place s.number line character) d
+    (λ reason line character. Err (refusal 3 reason s.number line character))
+    (λ d. Err (refusal_at 4 1 (reached_at s d)))
+    λ t line character d. Ok (t, place s.number line character, d)
 
 module _ (bundle : Bytes) where
-  unfoldable pub expect_of : Sign → Source → Cursor → Past
+  unfoldable pub expect_of : Sign → Source → Cursor → Result Cursor Refusal
   expect_of g s c =
-      on-Mandatory (mandatory_of bundle s c) Another λ t o d.
-      cond (is_sign g (token_of bundle t)) (Beyond d) (Another (refusal_at 4 4 o))
+      on_result3 (mandatory_of bundle s c) Err λ t o d.
+      cond (is_sign g (token_of bundle t)) (Ok d) (Err (refusal_at 4 4 o))
 
-  unfoldable pub word_of : Source → Cursor → Word
+  unfoldable pub word_of : Source → Cursor → Result (Range × Cursor) Refusal
   word_of s c =
-      on-Mandatory (mandatory_of bundle s c) NoWord λ t o d.
-      on_identifier (token_of bundle t) (λ a. IsWord (range_of a) d) (NoWord (refusal_at 4 3 o))
+      on_result3 (mandatory_of bundle s c) Err λ t o d.
+      on_identifier (token_of bundle t) (λ a. Ok (range_of a, d)) (Err (refusal_at 4 3 o))
 
-  unfoldable pub figure_of : Source → Cursor → Figure
+  unfoldable pub figure_of : Source → Cursor → Result (Float × Cursor) Refusal
   figure_of s c =
-      on-Mandatory (mandatory_of bundle s c) NoFigure λ t o d.
-      on_number (token_of bundle t) (λ x. IsFigure x d) (NoFigure (refusal_at 4 3 o))
+      on_result3 (mandatory_of bundle s c) Err λ t o d.
+      on_number (token_of bundle t) (λ x. Ok (x, d)) (Err (refusal_at 4 3 o))
 
   -- behind the colon of a key
-  unfoldable pub joined_of : Source → Range → Cursor → Key
+  unfoldable pub joined_of : Source → Range → Cursor → Result (Name × Token × Place × Cursor) Refusal
   joined_of s a c =
-      on-Word (word_of s c) NoKey λ b d.
-      on-Mandatory (mandatory_of bundle s d) NoKey λ t o f.
-      IsKey (Joined a b) t o f
+      on_result2 (word_of s c) Err λ b d.
+      on_result3 (mandatory_of bundle s d) Err λ t o f.
+      Ok (Joined a b, t, o, f)
 
-  unfoldable pub key_of : Source → Range → Cursor → Key
+  unfoldable pub key_of : Source → Range → Cursor → Result (Name × Token × Place × Cursor) Refusal
   key_of s a c =
-      on-Mandatory (mandatory_of bundle s c) NoKey λ t o d.
-      cond (is_sign colon (token_of bundle t)) (joined_of s a d) (IsKey (Plain a) t o d)
+      on_result3 (mandatory_of bundle s c) Err λ t o d.
+      cond (is_sign colon (token_of bundle t)) (joined_of s a d) (Ok (Plain a, t, o, d))

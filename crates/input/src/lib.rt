@@ -2,10 +2,6 @@
 #![tactic(auto)]
 
 use base::Range;
-use base::refusal::Refusal;
-use cursor::Cursor;
-use table::Name;
-use token_kind::Token;
 
 pub mod tokens;
 
@@ -22,39 +18,4 @@ pub struct Place {
     pub text: usize,
     pub line: usize,
     pub character: usize,
-}
-
-// No token, or one with the place where it begins and the place behind it.
-#[derive(Clone, Copy)]
-pub enum Mandatory {
-    NoToken(Refusal),
-    Got(Token, Place, Cursor),
-}
-
-// Another token than the expected one, or the place behind it.
-#[derive(Clone, Copy)]
-pub enum Past {
-    Another(Refusal),
-    Beyond(Cursor),
-}
-
-// No identifier, or one and the place behind it.
-#[derive(Clone, Copy)]
-pub enum Word {
-    NoWord(Refusal),
-    IsWord(Range, Cursor),
-}
-
-// No key of a test, or one, the token behind it, where that begins, and the place behind that.
-#[derive(Clone, Copy)]
-pub enum Key {
-    NoKey(Refusal),
-    IsKey(Name, Token, Place, Cursor),
-}
-
-// No number, or one and the place behind it.
-#[derive(Clone, Copy)]
-pub enum Figure {
-    NoFigure(Refusal),
-    IsFigure(f64, Cursor),
 }

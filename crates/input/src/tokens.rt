@@ -3,7 +3,7 @@ ghost use Rattle.std.specs.Prelude.{◌≡◌, ◌+◌, ◌<◌};
 ghost use Rattle.input.specs.Text.{Fits, shifted, placed, next_of, refusal_at, reached_at, mandatory_of, expect_of, word_of, key_of, joined_of, figure_of};
 ghost use Rattle.grammar.specs.Token.{right_bracket, colon, semi_colon};
 
-use crate::{Figure, Key, Mandatory, Past, Place, Source, Word};
+use crate::{Place, Source};
 use base::Range;
 use base::refusal::{ANOTHER_TOKEN, END_OF_FILE, LEXER, PARSE, Refusal, UNEXPECTED_TOKEN};
 use cursor::Cursor;
@@ -74,19 +74,23 @@ pub fn refuse_reached(number: usize, reason: usize, source: Source, c: Cursor) -
     }
 }
 
-pub fn read_mandatory_token(bundle: &[u8], source: Source, c: Cursor) -> Mandatory
+pub fn read_mandatory_token(
+    bundle: &[u8],
+    source: Source,
+    c: Cursor,
+) -> Result<(Token, Place, Cursor), Refusal>
     ensures { result ≡ mandatory_of bundle.now source c }
 {
     match next(bundle, source, c) {
-        Step::Wrong(reason, line, character) => Mandatory::NoToken(Refusal {
+        Step::Wrong(reason, line, character) => Err(Refusal {
             number: LEXER,
             reason,
             text: source.number,
             line,
             character,
         }),
-        Step::End(d) => Mandatory::NoToken(refuse_reached(PARSE, END_OF_FILE, source, d)),
-        Step::Took(t, line, character, d) => Mandatory::Got(
+        Step::End(d) => Err(refuse_reached(PARSE, END_OF_FILE, source, d)),
+        Step::Took(t, line, character, d) => Ok((
             t,
             Place {
                 text: source.number,
@@ -94,92 +98,86 @@ pub fn read_mandatory_token(bundle: &[u8], source: Source, c: Cursor) -> Mandato
                 character,
             },
             d,
-        ),
+        )),
     }
 }
 
-pub fn expect_right_bracket(bundle: &[u8], source: Source, c: Cursor) -> Past
+pub fn expect_right_bracket(bundle: &[u8], source: Source, c: Cursor) -> Result<Cursor, Refusal>
     ensures { result ≡ expect_of bundle.now right_bracket source c }
 {
-    match read_mandatory_token(bundle, source, c) {
-        Mandatory::NoToken(e) => Past::Another(e),
-        Mandatory::Got(t, o, d) => match t {
-            Token::RightBracket => Past::Beyond(d),
-            _ => Past::Another(refuse(PARSE, ANOTHER_TOKEN, o)),
-        },
+    let (t, o, d) = read_mandatory_token(bundle, source, c)?;
+    match t {
+        Token::RightBracket => Ok(d),
+        _ => Err(refuse(PARSE, ANOTHER_TOKEN, o)),
     }
 }
 
-pub fn expect_colon(bundle: &[u8], source: Source, c: Cursor) -> Past
+pub fn expect_colon(bundle: &[u8], source: Source, c: Cursor) -> Result<Cursor, Refusal>
     ensures { result ≡ expect_of bundle.now colon source c }
 {
-    match read_mandatory_token(bundle, source, c) {
-        Mandatory::NoToken(e) => Past::Another(e),
-        Mandatory::Got(t, o, d) => match t {
-            Token::Colon => Past::Beyond(d),
-            _ => Past::Another(refuse(PARSE, ANOTHER_TOKEN, o)),
-        },
+    let (t, o, d) = read_mandatory_token(bundle, source, c)?;
+    match t {
+        Token::Colon => Ok(d),
+        _ => Err(refuse(PARSE, ANOTHER_TOKEN, o)),
     }
 }
 
-pub fn expect_semicolon(bundle: &[u8], source: Source, c: Cursor) -> Past
+pub fn expect_semicolon(bundle: &[u8], source: Source, c: Cursor) -> Result<Cursor, Refusal>
     ensures { result ≡ expect_of bundle.now semi_colon source c }
 {
-    match read_mandatory_token(bundle, source, c) {
-        Mandatory::NoToken(e) => Past::Another(e),
-        Mandatory::Got(t, o, d) => match t {
-            Token::SemiColon => Past::Beyond(d),
-            _ => Past::Another(refuse(PARSE, ANOTHER_TOKEN, o)),
-        },
+    let (t, o, d) = read_mandatory_token(bundle, source, c)?;
+    match t {
+        Token::SemiColon => Ok(d),
+        _ => Err(refuse(PARSE, ANOTHER_TOKEN, o)),
     }
 }
 
-pub fn read_identifier(bundle: &[u8], source: Source, c: Cursor) -> Word
+pub fn read_identifier(bundle: &[u8], source: Source, c: Cursor) -> Result<(Range, Cursor), Refusal>
     ensures { result ≡ word_of bundle.now source c }
 {
-    match read_mandatory_token(bundle, source, c) {
-        Mandatory::NoToken(e) => Word::NoWord(e),
-        Mandatory::Got(t, o, d) => match t {
-            Token::Identifier(a) => Word::IsWord(a, d),
-            _ => Word::NoWord(refuse(PARSE, UNEXPECTED_TOKEN, o)),
-        },
+    let (t, o, d) = read_mandatory_token(bundle, source, c)?;
+    match t {
+        Token::Identifier(a) => Ok((a, d)),
+        _ => Err(refuse(PARSE, UNEXPECTED_TOKEN, o)),
     }
 }
 
 // A number that must come.
-pub fn read_figure(bundle: &[u8], source: Source, c: Cursor) -> Figure
+pub fn read_figure(bundle: &[u8], source: Source, c: Cursor) -> Result<(f64, Cursor), Refusal>
     ensures { result ≡ figure_of bundle.now source c }
 {
-    match read_mandatory_token(bundle, source, c) {
-        Mandatory::NoToken(e) => Figure::NoFigure(e),
-        Mandatory::Got(t, o, d) => match t {
-            Token::Number(x) => Figure::IsFigure(x, d),
-            _ => Figure::NoFigure(refuse(PARSE, UNEXPECTED_TOKEN, o)),
-        },
+    let (t, o, d) = read_mandatory_token(bundle, source, c)?;
+    match t {
+        Token::Number(x) => Ok((x, d)),
+        _ => Err(refuse(PARSE, UNEXPECTED_TOKEN, o)),
     }
 }
 
 // What stands behind the first word of a key: a colon and a second word, or none; and the token behind that.
-pub fn read_key(bundle: &[u8], source: Source, a: Range, c: Cursor) -> Key
+pub fn read_key(
+    bundle: &[u8],
+    source: Source,
+    a: Range,
+    c: Cursor,
+) -> Result<(Name, Token, Place, Cursor), Refusal>
     ensures { result ≡ key_of bundle.now source a c }
 {
-    match read_mandatory_token(bundle, source, c) {
-        Mandatory::NoToken(e) => Key::NoKey(e),
-        Mandatory::Got(t, o, d) => match t {
-            Token::Colon => read_joined(bundle, source, a, d),
-            _ => Key::IsKey(Name::Plain(a), t, o, d),
-        },
+    let (t, o, d) = read_mandatory_token(bundle, source, c)?;
+    match t {
+        Token::Colon => read_joined(bundle, source, a, d),
+        _ => Ok((Name::Plain(a), t, o, d)),
     }
 }
 
-fn read_joined(bundle: &[u8], source: Source, a: Range, c: Cursor) -> Key
+fn read_joined(
+    bundle: &[u8],
+    source: Source,
+    a: Range,
+    c: Cursor,
+) -> Result<(Name, Token, Place, Cursor), Refusal>
     ensures { result ≡ joined_of bundle.now source a c }
 {
-    match read_identifier(bundle, source, c) {
-        Word::NoWord(e) => Key::NoKey(e),
-        Word::IsWord(b, d) => match read_mandatory_token(bundle, source, d) {
-            Mandatory::NoToken(e) => Key::NoKey(e),
-            Mandatory::Got(t, o, f) => Key::IsKey(Name::Joined(a, b), t, o, f),
-        },
-    }
+    let (b, d) = read_identifier(bundle, source, c)?;
+    let (t, o, f) = read_mandatory_token(bundle, source, d)?;
+    Ok((Name::Joined(a, b), t, o, f))
 }

@@ -8,40 +8,36 @@ use lib.ListN.{length, set}
 use lib.Seq.{set_out}
 use Rattle.base.specs.Bytes.{Bytes, same, within}
 use Rattle.base.specs.Choice.{pick, if_true, if_false}
+use Rattle.base.specs.Option.{option_none_with, option_some_with}
 use Rattle.base.specs.Table.{stored}
 use Rattle.base.specs.declared.Range.{Range}
 use Rattle.color.specs.declared.Color.{Color}
-use Rattle.group.specs.declared.Place.{Place}
-use Rattle.group.specs.declared.Place.TheVariants.{Nowhere, At}
 use Rattle.entries.specs.Put.{put_of}
 use Rattle.table.specs.Value.{word_at, range_at}
 use Rattle.table.specs.declared.Name.{Name}
 use Rattle.table.specs.declared.PropertyValue.{PropertyValue}
-use Rattle.entries.specs.declared.Put.{Put}
-use Rattle.entries.specs.declared.Put.TheVariants.{Full, Next}
-use Rattle.keep.specs.Lent.{with-Put, keep_of, value_row, word_row, recolored, color_at, place_from}
-use Rattle.keep.specs.declared.Room.{Room}
-use Rattle.keep.specs.declared.Room.TheVariants.{NoRoom, Stored}
+use Rattle.keep.specs.Lent.{keep_of, value_row, word_row, recolored, color_at, place_from}
 use Rattle.keep.specs.declared.Tally.{Tally}
+use Rattle.std.specs.Prelude.{Option, Some, None}
 
 module _ {A : Type 0} (stride : ℕ) (t : List A) (n : ℕ) (vs : List A) (f : ℕ → Tally) where
-  pub kept_none : {u : List A} → put_of stride t n vs ≡ (Full, u) → (NoRoom, u) ≡ keep_of stride t n vs f
-  unfolding keep_of with-Put
-  kept_none e = sym (ap (λ x. with-Put x (λ t. (NoRoom, t)) λ m t. (Stored (f m), t)) e)
+  pub kept_none : {u : List A} → put_of stride t n vs ≡ (None, u) → (None, u) ≡ keep_of stride t n vs f
+  unfolding keep_of
+  kept_none e = option_none_with _ _ _ e refl
 
-  pub kept_one : {m : ℕ} {u : List A} → put_of stride t n vs ≡ (Next m, u) → (Stored (f m), u) ≡ keep_of stride t n vs f
-  unfolding keep_of with-Put
-  kept_one e = sym (ap (λ x. with-Put x (λ t. (NoRoom, t)) λ m t. (Stored (f m), t)) e)
+  pub kept_one : {m : ℕ} {u : List A} → put_of stride t n vs ≡ (Some m, u) → (Some (f m), u) ≡ keep_of stride t n vs f
+  unfolding keep_of
+  kept_one e = option_some_with _ _ _ e refl
 
 pub by_value :
-    (t : List ℕ) (n : ℕ) (name : Range) (x : ℕ) {v w : PropertyValue} {y : Put × List ℕ}
+    (t : List ℕ) (n : ℕ) (name : Range) (x : ℕ) {v w : PropertyValue} {y : Option ℕ × List ℕ}
     → v ≡ w
     → y ≡ put_of 8 t n (value_row name w x)
     → y ≡ put_of 8 t n (value_row name v x)
 by_value t n name x e h = h ∙ ap (λ v. put_of 8 t n (value_row name v x)) (sym e)
 
 pub by_name :
-    (t : List ℕ) (n : ℕ) (name : Range) {v w : Name} {y : Put × List ℕ}
+    (t : List ℕ) (n : ℕ) (name : Range) {v w : Name} {y : Option ℕ × List ℕ}
     → v ≡ w
     → y ≡ put_of 8 t n (word_row name w)
     → y ≡ put_of 8 t n (word_row name v)
@@ -67,7 +63,7 @@ module _ (bundle name : Bytes) (t : List ℕ) (n i : ℕ) where
   turn : i < n → place_from bundle name t i (n - i) ≡ place_from bundle name t i (suc (n - (i + 1)))
   turn h = ap (place_from bundle name t i) (let e : n - i ≡ suc (n - (i + 1)) = omega arith in e)
 
-  pub place_here : i < n → same name (within (range_at t i 1) bundle) ≡ true → At i ≡ place_from bundle name t i (n - i)
+  pub place_here : i < n → same name (within (range_at t i 1) bundle) ≡ true → Some i ≡ place_from bundle name t i (n - i)
   unfolding place_from
   place_here h e = if_true _ _ _ e refl ∙ sym (turn h)
 
@@ -78,7 +74,7 @@ module _ (bundle name : Bytes) (t : List ℕ) (n i : ℕ) where
   unfolding place_from
   place_further h e = if_false _ _ _ e refl ∙ sym (turn h)
 
-  pub place_none : n ≤ i → Nowhere ≡ place_from bundle name t i (n - i)
+  pub place_none : n ≤ i → None ≡ place_from bundle name t i (n - i)
   unfolding place_from
   place_none h = ap (place_from bundle name t i) (let e : 0 ≡ n - i = omega arith in e)
 
@@ -100,5 +96,5 @@ recolored_by t u v w i c e f g =
     let two : i * 8 + 3 + 2 ≡ i * 8 + 3 + 1 + 1 = omega arith in
     g ∙ rw (f, e, two) refl
 
-pub stored_same : {A : Type 0} (n : Tally) (t u : List A) → t ≡ u → ◌≡◌ {A = Room × List A} (Stored n, t) (Stored n, u)
-stored_same n t u e = ap (λ t. (Stored n, t)) e
+pub stored_same : {A : Type 0} (n : Tally) (t u : List A) → t ≡ u → ◌≡◌ {A = Option Tally × List A} (Some n, t) (Some n, u)
+stored_same n t u e = ap (λ t. (Some n, t)) e

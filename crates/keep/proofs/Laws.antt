@@ -16,24 +16,18 @@ use Rattle.grammar.specs.Token.{Name, Sign, Token as Token'}
 use Rattle.grammar.specs.View.{on_number}
 use Rattle.grammar.specs.Input.{number_entry, Answer, refused, on_option, keep}
 use Rattle.grammar.specs.Reader.{read_mandatory_token, unexpected_token, expect_simple_token, read_identifier}
-use Rattle.input.specs.Elim.{on-Mandatory, on-Past, on-Word, on-Figure}
-use Rattle.keep.specs.Elim.{with-Room, on-Room}
 use Rattle.keep.specs.Lent.{Lent, lent, keep_number_of, taken, put_entry, lent_store}
 use Rattle.keep.specs.Source.{reading}
 use Rattle.input.specs.Source.{Spot, spot}
 use Rattle.input.specs.Text.{name_in, token_of, left, mandatory_of, expect_of, word_of, figure_of, refusal_at, reached_at}
-use Rattle.input.specs.declared.Mandatory.TheVariants.{NoToken, Got}
-use Rattle.input.specs.declared.Past.TheVariants.{Another, Beyond}
-use Rattle.input.specs.declared.Word.TheVariants.{NoWord, IsWord}
-use Rattle.input.specs.declared.Figure.TheVariants.{NoFigure, IsFigure}
-use Rattle.keep.specs.declared.Room.TheVariants.{NoRoom, Stored}
 use Rattle.input.specs.declared.Place.{Place}
 use Rattle.input.specs.declared.Source.{Source}
 use Rattle.keep.specs.declared.Tally.{Tally}
 use Rattle.input.proofs.Fuel.{mandatory_moves}
 use Rattle.input.proofs.Readers.{mandatory_is, expect_is, word_is, figure_is, expect_moves, word_moves, figure_moves}
 use Rattle.keep.specs.Answers.{Reads, refuses, done}
-use Rattle.keep.specs.declared.Kept.{Kept}
+use Rattle.std.specs.Prelude.{Some, None, Result, Ok, Err}
+use Rattle.base.specs.Option.{on_option as on_option', with_option, on_result, on_result2, on_result3}
 
 -- ---- an option that is known
 
@@ -51,97 +45,97 @@ module _ {A B : Type 0} (Q : B → Type 0) where
 module _ {A : Type 0} (Q : Answer A Spot Lent Refusal → Type 0) (bundle : Bytes) (s : Source) where
   pub no_token :
       (c : Cursor) (τ : Lent) (k : Token' → Place → Spot → Answer A Spot Lent Refusal) {e : Refusal}
-      → mandatory_of bundle s c ≡ NoToken e
+      → mandatory_of bundle s c ≡ Err e
       → Q (refused e τ)
       → Q (read_mandatory_token (reading bundle) (spot s c) τ k)
-  unfolding on-Mandatory
+  unfolding on_result
   no_token c τ k h q =
-      subst Q (sym (mandatory_is bundle (lent_store bundle) s c τ k ∙ ap (λ m. on-Mandatory m (λ e. refused e τ) (λ t o d. k (token_of bundle t) o (spot s d))) h)) q
+      subst Q (sym (mandatory_is bundle (lent_store bundle) s c τ k ∙ ap (λ m. on_result3 m (λ e. refused e τ) (λ t o d. k (token_of bundle t) o (spot s d))) h)) q
 
   pub got :
       (c : Cursor) (τ : Lent) (k : Token' → Place → Spot → Answer A Spot Lent Refusal) {t : Token} {o : Place} {d : Cursor}
-      → mandatory_of bundle s c ≡ Got t o d
+      → mandatory_of bundle s c ≡ Ok (t, o, d)
       → (left bundle s d < left bundle s c → Q (k (token_of bundle t) o (spot s d)))
       → Q (read_mandatory_token (reading bundle) (spot s c) τ k)
-  unfolding on-Mandatory
+  unfolding on_result
   got c τ k {t} {o} {d} h q =
-      subst Q (sym (mandatory_is bundle (lent_store bundle) s c τ k ∙ ap (λ m. on-Mandatory m (λ e. refused e τ) (λ t o d. k (token_of bundle t) o (spot s d))) h))
+      subst Q (sym (mandatory_is bundle (lent_store bundle) s c τ k ∙ ap (λ m. on_result3 m (λ e. refused e τ) (λ t o d. k (token_of bundle t) o (spot s d))) h))
       (q (mandatory_moves bundle s c d t o h))
 
   -- a token that is known
   pub got_as :
       (c : Cursor) (τ : Lent) (k : Token' → Place → Spot → Answer A Spot Lent Refusal) {t v : Token} {o : Place} {d : Cursor}
-      → mandatory_of bundle s c ≡ Got t o d
+      → mandatory_of bundle s c ≡ Ok (t, o, d)
       → t ≡ v
       → (left bundle s d < left bundle s c → Q (k (token_of bundle v) o (spot s d)))
       → Q (read_mandatory_token (reading bundle) (spot s c) τ k)
-  got_as c τ k {o = o} {d = d} h e q = got c τ k (h ∙ ap (λ t. Got t o d) e) q
+  got_as c τ k {o = o} {d = d} h e q = got c τ k (h ∙ ap (λ t. Ok (t, o, d)) e) q
 
   pub another :
       (g : Sign) (c : Cursor) (τ : Lent) (k : Spot → Answer A Spot Lent Refusal) {e : Refusal}
-      → expect_of bundle g s c ≡ Another e
+      → expect_of bundle g s c ≡ Err e
       → Q (refused e τ)
       → Q (expect_simple_token (reading bundle) g (spot s c) τ k)
-  unfolding on-Past
+  unfolding on_result
   another g c τ k h q =
-      subst Q (sym (expect_is bundle (lent_store bundle) s g c τ k ∙ ap (λ m. on-Past m (λ e. refused e τ) (λ d. k (spot s d))) h)) q
+      subst Q (sym (expect_is bundle (lent_store bundle) s g c τ k ∙ ap (λ m. on_result m (λ e. refused e τ) (λ d. k (spot s d))) h)) q
 
   pub beyond :
       (g : Sign) (c : Cursor) (τ : Lent) (k : Spot → Answer A Spot Lent Refusal) {d : Cursor}
-      → expect_of bundle g s c ≡ Beyond d
+      → expect_of bundle g s c ≡ Ok d
       → (left bundle s d < left bundle s c → Q (k (spot s d)))
       → Q (expect_simple_token (reading bundle) g (spot s c) τ k)
-  unfolding on-Past
+  unfolding on_result
   beyond g c τ k {d} h q =
-      subst Q (sym (expect_is bundle (lent_store bundle) s g c τ k ∙ ap (λ m. on-Past m (λ e. refused e τ) (λ d. k (spot s d))) h))
+      subst Q (sym (expect_is bundle (lent_store bundle) s g c τ k ∙ ap (λ m. on_result m (λ e. refused e τ) (λ d. k (spot s d))) h))
       (q (expect_moves bundle s g c d h))
 
   pub no_word :
       (c : Cursor) (τ : Lent) (k : Name → Spot → Answer A Spot Lent Refusal) {e : Refusal}
-      → word_of bundle s c ≡ NoWord e
+      → word_of bundle s c ≡ Err e
       → Q (refused e τ)
       → Q (read_identifier (reading bundle) (spot s c) τ k)
-  unfolding on-Word
+  unfolding on_result
   no_word c τ k h q =
-      subst Q (sym (word_is bundle (lent_store bundle) s c τ k ∙ ap (λ m. on-Word m (λ e. refused e τ) (λ a d. k (name_in bundle a) (spot s d))) h)) q
+      subst Q (sym (word_is bundle (lent_store bundle) s c τ k ∙ ap (λ m. on_result2 m (λ e. refused e τ) (λ a d. k (name_in bundle a) (spot s d))) h)) q
 
   pub a_word :
       (c : Cursor) (τ : Lent) (k : Name → Spot → Answer A Spot Lent Refusal) {a : Range} {d : Cursor}
-      → word_of bundle s c ≡ IsWord a d
+      → word_of bundle s c ≡ Ok (a, d)
       → (left bundle s d < left bundle s c → Q (k (name_in bundle a) (spot s d)))
       → Q (read_identifier (reading bundle) (spot s c) τ k)
-  unfolding on-Word
+  unfolding on_result
   a_word c τ k {a} {d} h q =
-      subst Q (sym (word_is bundle (lent_store bundle) s c τ k ∙ ap (λ m. on-Word m (λ e. refused e τ) (λ a d. k (name_in bundle a) (spot s d))) h))
+      subst Q (sym (word_is bundle (lent_store bundle) s c τ k ∙ ap (λ m. on_result2 m (λ e. refused e τ) (λ a d. k (name_in bundle a) (spot s d))) h))
       (q (word_moves bundle s c d a h))
 
   pub no_figure :
       (c : Cursor) (τ : Lent) (k : Float → Spot → Answer A Spot Lent Refusal) {e : Refusal}
-      → figure_of bundle s c ≡ NoFigure e
+      → figure_of bundle s c ≡ Err e
       → Q (refused e τ)
       → Q (read_mandatory_token (reading bundle) (spot s c) τ (λ t o d. on_number t (λ x. k x d) (unexpected_token (reading bundle) o τ)))
-  unfolding on-Figure
+  unfolding on_result
   no_figure c τ k h q =
-      subst Q (sym (figure_is bundle (lent_store bundle) s c τ k ∙ ap (λ m. on-Figure m (λ e. refused e τ) (λ x d. k x (spot s d))) h)) q
+      subst Q (sym (figure_is bundle (lent_store bundle) s c τ k ∙ ap (λ m. on_result2 m (λ e. refused e τ) (λ x d. k x (spot s d))) h)) q
 
   pub a_figure :
       (c : Cursor) (τ : Lent) (k : Float → Spot → Answer A Spot Lent Refusal) {x : Float} {d : Cursor}
-      → figure_of bundle s c ≡ IsFigure x d
+      → figure_of bundle s c ≡ Ok (x, d)
       → (left bundle s d < left bundle s c → Q (k x (spot s d)))
       → Q (read_mandatory_token (reading bundle) (spot s c) τ (λ t o d. on_number t (λ x. k x d) (unexpected_token (reading bundle) o τ)))
-  unfolding on-Figure
+  unfolding on_result
   a_figure c τ k {x} {d} h q =
-      subst Q (sym (figure_is bundle (lent_store bundle) s c τ k ∙ ap (λ m. on-Figure m (λ e. refused e τ) (λ x d. k x (spot s d))) h))
+      subst Q (sym (figure_is bundle (lent_store bundle) s c τ k ∙ ap (λ m. on_result2 m (λ e. refused e τ) (λ x d. k x (spot s d))) h))
       (q (figure_moves bundle s c d x h))
 
   -- ---- storing
 
   pub no_room_number :
       (x : Float) (c : Cursor) (τ : Lent) (k : Lent → Answer A Spot Lent Refusal) {u : List Float}
-      → keep_number_of τ.tally τ.numbers x ≡ (NoRoom, u)
+      → keep_number_of τ.tally τ.numbers x ≡ (None, u)
       → Q (refused (refusal_at 20 5 (reached_at s c)) τ)
       → Q (keep (reading bundle) (number_entry x) (spot s c) τ k)
-  unfolding put_entry taken with-Room on-Room
+  unfolding put_entry taken with_option on_option'
   no_room_number x c τ k e q =
       option_none Q _ _ k
       (ap (λ y. taken y λ n t. lent n τ.rules τ.selectors τ.tests τ.properties t τ.colors) e)
@@ -149,10 +143,10 @@ module _ {A : Type 0} (Q : Answer A Spot Lent Refusal → Type 0) (bundle : Byte
 
   pub room_number :
       (x : Float) (c : Cursor) (τ : Lent) (k : Lent → Answer A Spot Lent Refusal) {n : Tally} {u : List Float}
-      → keep_number_of τ.tally τ.numbers x ≡ (Stored n, u)
+      → keep_number_of τ.tally τ.numbers x ≡ (Some n, u)
       → Q (k (lent n τ.rules τ.selectors τ.tests τ.properties u τ.colors))
       → Q (keep (reading bundle) (number_entry x) (spot s c) τ k)
-  unfolding put_entry taken with-Room on-Room
+  unfolding put_entry taken with_option on_option'
   room_number x c τ k e q =
       option_some Q _ _ k
       (ap (λ y. taken y λ n t. lent n τ.rules τ.selectors τ.tests τ.properties t τ.colors) e)
@@ -171,7 +165,7 @@ module _ {B : Type 0} (Q : B → Type 0) where
 
 -- a bound may be larger
 pub widen :
-    {A : Type 0} {bundle : Bytes} {s : Source} {b b' : ℕ} {tables : Tally → Lent} {r : Kept} {a : Answer A Spot Lent Refusal}
+    {A : Type 0} {bundle : Bytes} {s : Source} {b b' : ℕ} {tables : Tally → Lent} {r : Result (Cursor × Tally) Refusal} {a : Answer A Spot Lent Refusal}
     → b ≤ b'
     → Reads bundle s b tables r a
     → Reads bundle s b' tables r a

@@ -15,12 +15,8 @@ use Rattle.base.specs.Choice.{by-test, if_true, if_false}
 use Rattle.base.specs.Table.{zero_float, capacity_of, padded}
 use Rattle.base.proofs.Tables.{padded_stored, padded_none}
 use Rattle.color.specs.declared.Color.{Color}
-use Rattle.group.specs.Elim.{on-Place}
-use Rattle.group.specs.declared.Place.{Place}
-use Rattle.group.specs.declared.Place.TheVariants.{Nowhere, At}
 use Rattle.entries.specs.Put.{put_of}
 use Rattle.entries.specs.Words.{color_words}
-use Rattle.entries.specs.declared.Put.TheVariants.{Full, Next}
 use Rattle.grammar.specs.Token.{Name as Name'}
 use Rattle.grammar.specs.Reading.{Test, Selector, Property, Colors, color_def, define}
 use Rattle.grammar.specs.Input.{Entry, rule_entry, selector_entry, test_entry, property_entry, number_entry, color_entry, table_of}
@@ -28,15 +24,15 @@ use Rattle.grammar.specs.Entries.{count}
 use Rattle.grammar.specs.Capacity.{Tables, tables, empty, add, taken as taken_of, limited, Fits}
 use Rattle.grammar.proofs.CapacityLaws.{last_count, onward}
 use Rattle.grammar.specs.Alike.{BothPut, both_full, both_take, Proper, Stands}
-use Rattle.keep.specs.Elim.{on-Room, with-Room}
 use Rattle.keep.specs.Encode.{Lengths, capacities, Rows, no_rows, add_row, add_rows, rows_of, color_rows, tally_of, lent_of}
-use Rattle.keep.specs.Lent.{Lent, lent, none_yet, with-Put, keep_of, one_color, keep_number_of, keep_test_of, keep_property_of, keep_selector_of, keep_rule_of, recolored, add_color_of, colors_of, place_from, keep_color_of, taken, put_entry, lent_store, value_shown, fresh_numbers}
+use Rattle.keep.specs.Lent.{Lent, lent, none_yet, keep_of, one_color, keep_number_of, keep_test_of, keep_property_of, keep_selector_of, keep_rule_of, recolored, add_color_of, colors_of, place_from, keep_color_of, taken, put_entry, lent_store, value_shown, fresh_numbers}
 use Rattle.input.specs.Text.{Small, range_of}
-use Rattle.keep.specs.declared.Room.TheVariants.{NoRoom, Stored}
 use Rattle.keep.specs.declared.Tally.{Tally}
 use Rattle.input.proofs.Genuine.{Genuine}
 use Rattle.keep.proofs.Rows.{test_eight, value_eight, rows_even, rows_counted, rows_last}
 use Rattle.keep.proofs.Tints.{rows_long, rows_more, AllGenuine, none as noColor, define_genuine, colors_back, Sought, new, old, color_sought}
+use Rattle.std.specs.Prelude.{Some, None, Option}
+use Rattle.base.specs.Option.{on_option, with_option}
 
 -- ---- an entry put behind the elements of a padded table
 
@@ -54,21 +50,21 @@ module _ {A : Type 0} (z : A) (k len n : ℕ) (es vs : List A) where
         → n * k + length vs ≤ len
         → n < capacity_of k len
         → taken (keep_of k (padded z len es) n vs f) g ≡ some (g (f (n + 1)) (padded z len (es ++ vs)))
-    unfolding taken keep_of with-Put with-Room on-Room put_of
+    unfolding taken keep_of with_option on_option put_of
     takes p w q h =
         let m : ltb n (capacity_of k (length (padded z len es))) ≡ true =
         ap (λ x. ltb n (capacity_of k x)) (padded_long z len es w) ∙ lt-ltb n (capacity_of k len) h in
-        let put : put_of k (padded z len es) n vs ≡ (Next (n + 1), padded z len (es ++ vs)) =
-        sym (if_true _ _ _ m refl) ∙ ap (λ t. (Next (n + 1), t)) (padded_stored z len es (n * k) vs p q) in
-        ap (λ x. taken (with-Put x (λ t. (NoRoom, t)) λ m t. (Stored (f m), t)) g) put
+        let put : put_of k (padded z len es) n vs ≡ (Some (n + 1), padded z len (es ++ vs)) =
+        sym (if_true _ _ _ m refl) ∙ ap (λ t. (Some (n + 1), t)) (padded_stored z len es (n * k) vs p q) in
+        ap (λ x. taken (with_option x (λ t. (None, t)) λ m t. (Some (f m), t)) g) put
 
     is_full : length es ≤ len → capacity_of k len ≤ n → taken (keep_of k (padded z len es) n vs f) g ≡ none
-    unfolding taken keep_of with-Put with-Room on-Room put_of
+    unfolding taken keep_of with_option on_option put_of
     is_full w h =
         let m : ltb n (capacity_of k (length (padded z len es))) ≡ false =
         ap (λ x. ltb n (capacity_of k x)) (padded_long z len es w) ∙ le-ltb n (capacity_of k len) h in
-        let put : put_of k (padded z len es) n vs ≡ (Full, padded z len es) = sym (if_false _ _ _ m refl) in
-        ap (λ x. taken (with-Put x (λ t. (NoRoom, t)) λ m t. (Stored (f m), t)) g) put
+        let put : put_of k (padded z len es) n vs ≡ (None, padded z len es) = sym (if_false _ _ _ m refl) in
+        ap (λ x. taken (with_option x (λ t. (None, t)) λ m t. (Some (f m), t)) g) put
 
 -- both take an entry, or both are full; m: the entries with this one
 module _ {A : Type 0} (z : A) (k len n m : ℕ) (es vs : List A) (f : ℕ → Tally) (g : Tally → List A → Lent)
@@ -243,7 +239,7 @@ module _ (bundle : Bytes) (l : Lengths) where
 
   module _ (short : length bundle < 4294967296) where
     put_color : (υ : Tables) (a : Name') (c : Color) → Written (lent_of l υ) υ → Genuine bundle a → Small c → Puts υ (color_entry a c)
-    unfolding put_entry keep_color_of add_color_of add on-Place taken with-Room on-Room
+    unfolding put_entry keep_color_of add_color_of add on_option taken with_option
     put_color υ a c w g s = go (place_from bundle a.bytes table 0 (length Γ)) (color_sought bundle short a c Γ rest w.genuine)
       where
         Γ : Colors
@@ -271,16 +267,16 @@ module _ (bundle : Bytes) (l : Lengths) where
             }
 
         go :
-            (k : Place)
+            (k : Option ℕ)
             → Sought bundle short a c table [] rest Γ k
             → BothPut Written
             (taken
-            (on-Place k
+            (on_option k
             (keep_of 8 table (length Γ) (color_words (range_of a) c) (one_color (tally_of υ))) λ i.
-            (Stored (tally_of υ), recolored table i c))
+            (Some (tally_of υ), recolored table i c))
             (around υ))
             (cond (leb (length Δ) (capacity_of 8 l.colors)) (some (tables υ.entries Δ)) none)
-        go Nowhere (new q) =
+        go None (new q) =
             let f = w.fits 6 in
             let n = rows_long Γ in
             let i = eight_in l.colors (length Γ) f in
@@ -294,7 +290,7 @@ module _ (bundle : Bytes) (l : Lengths) where
             (λ h.
             written (omega arith)
             (ap₂ (λ k cs. beside υ k (padded 0 l.colors cs)) (sym m) (sym (ap color_rows q ∙ rows_more Γ a c))))
-        go (At j) (old m q) =
+        go (Some j) (old m q) =
             let f = w.fits 6 in
             let n = rows_long Γ in
             let o = rows_long Δ in

@@ -11,8 +11,6 @@ use Rattle.base.specs.Choice.{by-test, if_true, if_false}
 use Rattle.base.specs.Table.{stored}
 use Rattle.base.specs.declared.Range.{Range}
 use Rattle.color.specs.declared.Color.{Color}
-use Rattle.group.specs.declared.Place.{Place}
-use Rattle.group.specs.declared.Place.TheVariants.{Nowhere, At}
 use Rattle.table.specs.Value.{word_at, range_at, word}
 use Rattle.entries.specs.Words.{color_words}
 use Rattle.grammar.specs.Token.{Name as Name'}
@@ -21,6 +19,7 @@ use Rattle.keep.specs.Encode.{color_rows}
 use Rattle.keep.specs.Lent.{color_at, recolored, colors_from, colors_of, place_from}
 use Rattle.input.specs.Text.{Small, name_in, range_of}
 use Rattle.input.proofs.Genuine.{Genuine}
+use Rattle.std.specs.Prelude.{Option, Some, None}
 
 -- ---- words of a row
 
@@ -150,13 +149,13 @@ module _ (bundle : Bytes) where
     colors_back Γ z g = back [] 0 Γ z refl g
 
     -- a colour's place among the rows, and what it does there
-    pub data Sought (a : Name') (c : Color) (t pre z : List ℕ) (Γ : Colors) : Place → Type 0 where
-      new : define Γ a c ≡ Γ ++ (color_def a c ∷ []) → Sought a c t pre z Γ Nowhere
+    pub data Sought (a : Name') (c : Color) (t pre z : List ℕ) (Γ : Colors) : Option ℕ → Type 0 where
+      new : define Γ a c ≡ Γ ++ (color_def a c ∷ []) → Sought a c t pre z Γ None
       old :
           {j : ℕ}
           → length (define Γ a c) ≡ length Γ
           → recolored t j c ≡ pre ++ (color_rows (define Γ a c) ++ z)
-          → Sought a c t pre z Γ (At j)
+          → Sought a c t pre z Γ (Some j)
 
     recolor :
         (pre : List ℕ) (i : ℕ) (d : ColorDef) (c : Color) (w : List ℕ)
@@ -174,13 +173,13 @@ module _ (bundle : Bytes) where
 
     -- a row with another name in front
     sought_further :
-        (a : Name') (c : Color) (t pre : List ℕ) (i : ℕ) (d : ColorDef) (Γ : Colors) (z : List ℕ) (k : Place)
+        (a : Name') (c : Color) (t pre : List ℕ) (i : ℕ) (d : ColorDef) (Γ : Colors) (z : List ℕ) (k : Option ℕ)
         → same a.bytes d.name.bytes ≡ false
         → Sought a c t (pre ++ color_words (range_of d.name) d.color) z Γ k
         → Sought a c t pre z (d ∷ Γ) k
     unfolding define
-    sought_further a c t pre i d Γ z Nowhere p (new q) = new (rw p (ap (λ Δ. d ∷ Δ) q))
-    sought_further a c t pre i d Γ z (At j) p (old l q) =
+    sought_further a c t pre i d Γ z None p (new q) = new (rw p (ap (λ Δ. d ∷ Δ) q))
+    sought_further a c t pre i d Γ z (Some j) p (old l q) =
         old {j = j} (rw p (ap suc l))
         (rw p (q ∙ front pre d (color_rows (define Γ a c) ++ z) ∙ sym (shift pre i d (define Γ a c) z)))
 
@@ -202,10 +201,10 @@ module _ (bundle : Bytes) where
         rw (shift pre i d Γ z)
         (by-test (same a.bytes d.name.bytes)
         (λ p.
-        subst (Sought a c t pre z (d ∷ Γ)) (if_true _ (At i) rest (m ∙ p) refl)
+        subst (Sought a c t pre z (d ∷ Γ)) (if_true _ (Some i) rest (m ∙ p) refl)
         (old {j = i} (rw p refl) (rw p (recolor pre i d c w e ∙ sym (shift pre i (color_def d.name c) Γ z)))))
         (λ p.
-        subst (Sought a c t pre z (d ∷ Γ)) (if_false _ (At i) rest (m ∙ p) refl)
+        subst (Sought a c t pre z (d ∷ Γ)) (if_false _ (Some i) rest (m ∙ p) refl)
         (sought_further a c t pre i d Γ z rest p
         (subst (λ u. Sought a c u (pre ++ row) z Γ (place_from bundle a.bytes u (i + 1) (length Γ))) (front pre d w)
         (seek a c (pre ++ row) (i + 1) Γ z (front_long pre i d e) r)))))

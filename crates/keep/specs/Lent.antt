@@ -1,25 +1,16 @@
 -- The lent tables as a store of the grammar's reader: the words of each entry, and the counts.
-use Rattle.std.specs.Prelude.{ℕ, zero, suc, ◌+◌, ◌*◌, ◌%◌, ◌<◌, List, [], ◌∷◌, Float}
-use Rattle.std.proofs.Math.Option.{Option, none, some}
+use Rattle.std.specs.Prelude.{ℕ, zero, suc, ◌+◌, ◌*◌, ◌%◌, ◌<◌, List, [], ◌∷◌, Float, Option, Some, None}
+use Rattle.std.proofs.Math.Option.{Option as Option', none, some}
 use Rattle.base.specs.Bytes.{Bytes, same, within}
 use Rattle.base.specs.Choice.{pick}
 use Rattle.base.specs.Table.{stored}
 use Rattle.base.specs.declared.Range.{Range}
 use Rattle.color.specs.Named.{rgb}
 use Rattle.color.specs.declared.Color.{Color}
-use Rattle.token_kind.specs.declared.ZoomLevel.{ZoomLevel}
-use Rattle.token_kind.specs.declared.ZoomLevel.TheVariants.{NoLevel, Level}
-use Rattle.group.specs.Elim.{on-Place}
-use Rattle.group.specs.declared.Place.{Place}
-use Rattle.group.specs.declared.Place.TheVariants.{Nowhere, At}
 use Rattle.sheet.specs.Sheet.{ObjectType, all, canvas, meta, node, way, area, UnaryTest, exists, not_exists, is_true, is_false, TextTest, equal, not_equal, NumericTest, less, less_or_equal, greater, greater_or_equal}
 use Rattle.entries.specs.Put.{put_of}
 use Rattle.table.specs.Value.{word_at, range_at}
 use Rattle.entries.specs.Words.{rule_words, selector_words, test_words, property_words, color_words}
-use Rattle.entries.specs.declared.Put.{Put}
-use Rattle.entries.specs.declared.Put.TheVariants.{Full, Next}
-use Rattle.entries.specs.declared.LayerName.{LayerName}
-use Rattle.entries.specs.declared.LayerName.TheVariants.{Unnamed, Named}
 use Rattle.table.specs.declared.Name.{Name}
 use Rattle.table.specs.declared.Name.TheVariants.{Plain, Joined}
 use Rattle.table.specs.declared.PropertyValue.{PropertyValue}
@@ -27,11 +18,9 @@ use Rattle.table.specs.declared.PropertyValue.TheVariants.{NoValue, Identifier, 
 use Rattle.grammar.specs.Token.{Name as Name'}
 use Rattle.grammar.specs.Reading.{plain, digits, Test, unary, text, numeric, Value, word, quoted, colored, numbers, width_delta, Colors, color_def}
 use Rattle.grammar.specs.Input.{Entry, rule_entry, selector_entry, test_entry, property_entry, number_entry, color_entry, Store}
-use Rattle.keep.specs.Elim.{with-Room}
 use Rattle.input.specs.Text.{name_in, range_of}
-use Rattle.keep.specs.declared.Room.{Room}
-use Rattle.keep.specs.declared.Room.TheVariants.{NoRoom, Stored}
 use Rattle.keep.specs.declared.Tally.{Tally}
+use Rattle.base.specs.Option.{with_option, on_option}
 
 pub record Lent : Type 0 where
   pub tally : Tally
@@ -70,13 +59,13 @@ type_number node = 4
 type_number way = 5
 type_number area = 6
 
-abbrev pub level_in : Option ℕ → ZoomLevel
-level_in none = NoLevel
-level_in (some n) = Level n
+abbrev pub level_in : Option' ℕ → Option ℕ
+level_in none = None
+level_in (some n) = Some n
 
-abbrev pub layer_in : Option Name' → LayerName
-layer_in none = Unnamed
-layer_in (some a) = Named (range_of a)
+abbrev pub layer_in : Option' Name' → Option Range
+layer_in none = None
+layer_in (some a) = Some (range_of a)
 
 -- a name stands in one place, or in two
 abbrev pub name_shown : Name' → Name
@@ -142,13 +131,9 @@ value_row name (WidthDelta d) x = property_words 6 name x 0 0 0
 abbrev pub fresh_numbers : Tally → Range
 fresh_numbers n = range n.number n.numbers
 
-unfoldable pub with-Put : {A B : Type 0} → Put × A → (A → B) → (ℕ → A → B) → B
-with-Put (Full, t) f g = f t
-with-Put (Next m, t) f g = g m t
-
 -- an entry of so many elements, n of which are there; f: the counts with one more
-unfoldable pub keep_of : {A : Type 0} → ℕ → List A → ℕ → List A → (ℕ → Tally) → Room × List A
-keep_of stride t n vs f = with-Put (put_of stride t n vs) (λ t. (NoRoom, t)) λ m t. (Stored (f m), t)
+unfoldable pub keep_of : {A : Type 0} → ℕ → List A → ℕ → List A → (ℕ → Tally) → Option Tally × List A
+keep_of stride t n vs f = with_option (put_of stride t n vs) (λ t. (None, t)) λ m t. (Some (f m), t)
 
 abbrev pub one_number : Tally → ℕ → Tally
 one_number n m =
@@ -180,20 +165,20 @@ one_color n m =
     record
     { rules = n.rules; selectors = n.selectors; tests = n.tests; properties = n.properties; numbers = n.numbers; colors = m; selector = n.selector; test = n.test; property = n.property; number = n.number }
 
-unfoldable pub keep_number_of : Tally → List Float → Float → Room × List Float
+unfoldable pub keep_number_of : Tally → List Float → Float → Option Tally × List Float
 keep_number_of n t x = keep_of 1 t n.numbers (x ∷ []) (one_number n)
 
-unfoldable pub keep_test_of : Tally → List ℕ → List ℕ → Room × List ℕ
+unfoldable pub keep_test_of : Tally → List ℕ → List ℕ → Option Tally × List ℕ
 keep_test_of n t row = keep_of 8 t n.tests row (one_test n)
 
-unfoldable pub keep_property_of : Tally → List ℕ → Range → PropertyValue → Room × List ℕ
+unfoldable pub keep_property_of : Tally → List ℕ → Range → PropertyValue → Option Tally × List ℕ
 keep_property_of n t name v = keep_of 8 t n.properties (value_row name v n.number) (one_property n)
 
-unfoldable pub keep_selector_of : Tally → List ℕ → ℕ → ZoomLevel → ZoomLevel → LayerName → Room × List ℕ
+unfoldable pub keep_selector_of : Tally → List ℕ → ℕ → Option ℕ → Option ℕ → Option Range → Option Tally × List ℕ
 keep_selector_of n t kind min max layer =
     keep_of 8 t n.selectors (selector_words kind min max (range n.test n.tests) layer) (one_selector n)
 
-unfoldable pub keep_rule_of : Tally → List ℕ → Room × List ℕ
+unfoldable pub keep_rule_of : Tally → List ℕ → Option Tally × List ℕ
 keep_rule_of n t =
     keep_of 8 t n.rules (rule_words (range n.selector n.selectors) (range n.property n.properties)) (one_rule n)
 
@@ -205,7 +190,7 @@ color_at t i = rgb (word_at t i 3 % 256) (word_at t i 4 % 256) (word_at t i 5 % 
 abbrev pub recolored : List ℕ → ℕ → Color → List ℕ
 recolored t i c = stored t (i * 8 + 3) (c.r ∷ c.g ∷ c.b ∷ [])
 
-unfoldable pub add_color_of : Tally → List ℕ → Range → Color → Room × List ℕ
+unfoldable pub add_color_of : Tally → List ℕ → Range → Color → Option Tally × List ℕ
 add_color_of n t r c = keep_of 8 t n.colors (color_words r c) (one_color n)
 
 module _ (bundle : Bytes) where
@@ -218,22 +203,22 @@ module _ (bundle : Bytes) where
   colors_of t n = colors_from t 0 n
 
   -- the first of k colours from place i on that has a name
-  unfoldable pub place_from : Bytes → List ℕ → ℕ → ℕ → Place
-  place_from name t i zero = Nowhere
-  place_from name t i (suc k) = pick (same name (within (range_at t i 1) bundle)) (At i) (place_from name t (i + 1) k)
+  unfoldable pub place_from : Bytes → List ℕ → ℕ → ℕ → Option ℕ
+  place_from name t i zero = None
+  place_from name t i (suc k) = pick (same name (within (range_at t i 1) bundle)) (Some i) (place_from name t (i + 1) k)
 
   -- a colour defined anew takes no entry
-  unfoldable pub keep_color_of : Tally → List ℕ → Bytes → Range → Color → Room × List ℕ
+  unfoldable pub keep_color_of : Tally → List ℕ → Bytes → Range → Color → Option Tally × List ℕ
   keep_color_of n t name r c =
-      on-Place (place_from name t 0 n.colors) (add_color_of n t r c) λ i. (Stored n, recolored t i c)
+      on_option (place_from name t 0 n.colors) (add_color_of n t r c) λ i. (Some n, recolored t i c)
 
 -- ---- the store
 
-unfoldable pub taken : {A B : Type 0} → Room × A → (Tally → A → B) → Option B
-taken x f = with-Room x (λ t. none) λ n t. some (f n t)
+unfoldable pub taken : {A B : Type 0} → Option Tally × A → (Tally → A → B) → Option' B
+taken x f = with_option x (λ t. none) λ n t. some (f n t)
 
 module _ (bundle : Bytes) where
-  unfoldable pub put_entry : Entry → Lent → Option Lent
+  unfoldable pub put_entry : Entry → Lent → Option' Lent
   put_entry rule_entry τ =
       taken (keep_rule_of τ.tally τ.rules) λ n t.
       lent n t τ.selectors τ.tests τ.properties τ.numbers τ.colors

@@ -1,4 +1,3 @@
-pub mod Elim
 pub mod Lent
 pub mod Encode
 pub mod Source

@@ -13,10 +13,7 @@ use base::refusal::Refusal;
 use base::{Range, set_word};
 use color::Color;
 use cursor::Cursor;
-use entries::{LayerName, Put};
-use group::Place;
 use table::{Name, PropertyValue, word_of};
-use token_kind::ZoomLevel;
 
 // How many entries each table holds, and the first of those that no entry has taken yet: a selector takes the tests since the
 // last one, a rule the selectors and properties, a test and a property the numbers.
@@ -34,58 +31,50 @@ pub struct Tally {
     pub number: usize,
 }
 
-// Whether a table had room for an entry, and the counts with it.
-#[derive(Clone, Copy)]
-pub enum Room {
-    NoRoom,
-    Stored(Tally),
-}
-
-// What reading and storing answers: the refusal, or the place reached and the counts.
-#[derive(Clone, Copy)]
-pub enum Kept {
-    Refused(Refusal),
-    Done(Cursor, Tally),
-}
-
-pub fn keep_number(numbers: &mut [f64], n: Tally, x: f64) -> Room
+pub fn keep_number(numbers: &mut [f64], n: Tally, x: f64) -> Option<Tally>
     ensures { (result, numbers.new) ≡ keep_number_of n numbers.old x }
 {
-    match entries::put_number(numbers, n.numbers, x) {
-        Put::Full => Room::NoRoom,
-        Put::Next(m) => Room::Stored(Tally { numbers: m, ..n }),
-    }
+    let m = entries::put_number(numbers, n.numbers, x)?;
+    Some(Tally { numbers: m, ..n })
 }
 
 // A test of a kind, with its key and two numbers for its value.
-pub fn keep_test(tests: &mut [u32], n: Tally, kind: u8, key: Name, a: usize, b: usize) -> Room
+pub fn keep_test(
+    tests: &mut [u32],
+    n: Tally,
+    kind: u8,
+    key: Name,
+    a: usize,
+    b: usize,
+) -> Option<Tally>
     ensures { (result, tests.new) ≡ keep_test_of n tests.old (test_words kind key a b) }
 {
-    match entries::put_test(tests, n.tests, kind, key, a, b) {
-        Put::Full => Room::NoRoom,
-        Put::Next(m) => Room::Stored(Tally {
-            tests: m,
-            number: n.numbers,
-            ..n
-        }),
-    }
+    let m = entries::put_test(tests, n.tests, kind, key, a, b)?;
+    Some(Tally {
+        tests: m,
+        number: n.numbers,
+        ..n
+    })
 }
 
-pub fn keep_property(properties: &mut [u32], n: Tally, name: Range, value: PropertyValue) -> Room
+pub fn keep_property(
+    properties: &mut [u32],
+    n: Tally,
+    name: Range,
+    value: PropertyValue,
+) -> Option<Tally>
     ensures { (result, properties.new) ≡ keep_property_of n properties.old name value }
 {
-    match put_value(properties, n.properties, name, value, n.number) {
-        Put::Full => Room::NoRoom,
-        Put::Next(m) => Room::Stored(Tally {
-            properties: m,
-            number: n.numbers,
-            ..n
-        }),
-    }
+    let m = put_value(properties, n.properties, name, value, n.number)?;
+    Some(Tally {
+        properties: m,
+        number: n.numbers,
+        ..n
+    })
 }
 
 // A property by the kind of its value; x is the place of a width delta's number.
-fn put_value(t: &mut [u32], n: usize, name: Range, value: PropertyValue, x: usize) -> Put
+fn put_value(t: &mut [u32], n: usize, name: Range, value: PropertyValue, x: usize) -> Option<usize>
     ensures { (result, t.new) ≡ put_of 8 t.old n (value_row name value x) }
 {
     match value {
@@ -107,7 +96,7 @@ fn put_value(t: &mut [u32], n: usize, name: Range, value: PropertyValue, x: usiz
     }
 }
 
-fn put_word(t: &mut [u32], n: usize, name: Range, value: Name) -> Put
+fn put_word(t: &mut [u32], n: usize, name: Range, value: Name) -> Option<usize>
     ensures { (result, t.new) ≡ put_of 8 t.old n (word_row name value) }
 {
     match value {
@@ -121,28 +110,26 @@ pub fn keep_selector(
     selectors: &mut [u32],
     n: Tally,
     kind: u8,
-    min: ZoomLevel,
-    max: ZoomLevel,
-    layer: LayerName,
-) -> Room
+    min: Option<u8>,
+    max: Option<u8>,
+    layer: Option<Range>,
+) -> Option<Tally>
     ensures { (result, selectors.new) ≡ keep_selector_of n selectors.old kind min max layer }
 {
     let tests = Range {
         from: n.test,
         to: n.tests,
     };
-    match entries::put_selector(selectors, n.selectors, kind, min, max, tests, layer) {
-        Put::Full => Room::NoRoom,
-        Put::Next(m) => Room::Stored(Tally {
-            selectors: m,
-            test: n.tests,
-            ..n
-        }),
-    }
+    let m = entries::put_selector(selectors, n.selectors, kind, min, max, tests, layer)?;
+    Some(Tally {
+        selectors: m,
+        test: n.tests,
+        ..n
+    })
 }
 
 // A rule with the selectors and properties that no rule has.
-pub fn keep_rule(rules: &mut [u32], n: Tally) -> Room
+pub fn keep_rule(rules: &mut [u32], n: Tally) -> Option<Tally>
     ensures { (result, rules.new) ≡ keep_rule_of n rules.old }
 {
     let selectors = Range {
@@ -153,37 +140,39 @@ pub fn keep_rule(rules: &mut [u32], n: Tally) -> Room
         from: n.property,
         to: n.properties,
     };
-    match entries::put_rule(rules, n.rules, selectors, properties) {
-        Put::Full => Room::NoRoom,
-        Put::Next(m) => Room::Stored(Tally {
-            rules: m,
-            selector: n.selectors,
-            property: n.properties,
-            ..n
-        }),
-    }
+    let m = entries::put_rule(rules, n.rules, selectors, properties)?;
+    Some(Tally {
+        rules: m,
+        selector: n.selectors,
+        property: n.properties,
+        ..n
+    })
 }
 
 // A colour definition, in the entry of its name if there is one.
-pub fn keep_color(bundle: &[u8], colors: &mut [u32], n: Tally, name: Range, c: Color) -> Room
+pub fn keep_color(
+    bundle: &[u8],
+    colors: &mut [u32],
+    n: Tally,
+    name: Range,
+    c: Color,
+) -> Option<Tally>
     ensures { (result, colors.new) ≡ keep_color_of bundle.now n colors.old (within name bundle.now) name c }
 {
     match find_color(bundle, &colors[..], n.colors, name) {
-        Place::Nowhere => add_color(colors, n, name, c),
-        Place::At(i) => {
+        None => add_color(colors, n, name, c),
+        Some(i) => {
             recolor(colors, i, c);
-            Room::Stored(n)
+            Some(n)
         }
     }
 }
 
-fn add_color(colors: &mut [u32], n: Tally, name: Range, c: Color) -> Room
+fn add_color(colors: &mut [u32], n: Tally, name: Range, c: Color) -> Option<Tally>
     ensures { (result, colors.new) ≡ add_color_of n colors.old name c }
 {
-    match entries::put_color(colors, n.colors, name, c) {
-        Put::Full => Room::NoRoom,
-        Put::Next(m) => Room::Stored(Tally { colors: m, ..n }),
-    }
+    let m = entries::put_color(colors, n.colors, name, c)?;
+    Some(Tally { colors: m, ..n })
 }
 
 fn recolor(colors: &mut [u32], i: usize, c: Color)
@@ -198,18 +187,16 @@ fn recolor(colors: &mut [u32], i: usize, c: Color)
 }
 
 // The place of the first of n colours that has a name.
-pub fn find_color(bundle: &[u8], colors: &[u32], n: usize, name: Range) -> Place
+pub fn find_color(bundle: &[u8], colors: &[u32], n: usize, name: Range) -> Option<usize>
     ensures { result ≡ place_from bundle.now (within name bundle.now) colors.now 0 n }
 {
     let wanted = base::part(bundle, name);
-    let mut i = 0;
-    while i < n {
+    for i in 0..n {
         if has_name(bundle, colors, i, wanted) {
-            return Place::At(i);
+            return Some(i);
         }
-        i += 1;
     }
-    Place::Nowhere
+    None
 }
 
 // Whether colour i has a name.

@@ -7,9 +7,7 @@ ghost use Rattle.std.specs.Io.KnownBytes.{Appends};
 
 use base::Range;
 use base::refusal::Refusal;
-use bundle::{Checked, FoundText};
-use entity::{EntityRange, NextEntity, SingleEntity, Sort};
-use group::{Number, Pair, Part};
+use entity::{EntityRange, Sort};
 use std::io;
 use std::io::Write;
 
@@ -193,8 +191,8 @@ fn refusal_is(r: Refusal, w: &[u8], i: usize) -> bool
 
 fn bundle_answers(s: &[u8], w: &[u8]) -> bool {
     match bundle::check_bundle(s) {
-        Checked::BadBundle(r) => refusal_is(r, w, 0),
-        Checked::Texts(n) => is_word(w, 0, 0) && is_word(w, 1, n as u64) && texts_are(s, n, w),
+        Err(r) => refusal_is(r, w, 0),
+        Ok(n) => is_word(w, 0, 0) && is_word(w, 1, n as u64) && texts_are(s, n, w),
     }
 }
 
@@ -216,8 +214,8 @@ fn text_is(s: &[u8], k: usize, w: &[u8]) -> bool
     requires { k < 64 }
 {
     match bundle::text_at(s, k) {
-        Pair::Broken => false,
-        Pair::Two(a, b) => {
+        None => false,
+        Some((a, b)) => {
             range_is(a, w, 4 * k + 2)
                 && range_is(b, w, 4 * k + 4)
                 && found_is(bundle::find_text(s, base::part(s, a)), k, b)
@@ -231,10 +229,10 @@ fn range_is(r: Range, w: &[u8], i: usize) -> bool
     is_word(w, i, r.from as u64) && is_word(w, i + 1, r.to as u64)
 }
 
-fn found_is(f: FoundText, k: usize, r: Range) -> bool {
+fn found_is(f: Option<(usize, Range)>, k: usize, r: Range) -> bool {
     match f {
-        FoundText::Missing => false,
-        FoundText::Text(j, t) => j == k && t.from == r.from && t.to == r.to,
+        None => false,
+        Some((j, t)) => j == k && t.from == r.from && t.to == r.to,
     }
 }
 
@@ -252,8 +250,8 @@ fn entity_is(e: EntityRange, w: &[u8], i: usize) -> bool
 
 fn single_answers(s: &[u8], w: &[u8]) -> bool {
     match entity::single_entity(s) {
-        SingleEntity::BadEntity(r) => refusal_is(r, w, 0),
-        SingleEntity::OneEntity(e) => entity_is(e, w, 0),
+        Err(r) => refusal_is(r, w, 0),
+        Ok(e) => entity_is(e, w, 0),
     }
 }
 
@@ -263,13 +261,13 @@ fn stream_answers(s: &[u8], sort: Sort, multipolygons: bool, w: &[u8]) -> bool {
     let mut place: usize = 0;
     while place < 64 {
         match entity::next_entity(s, sort, multipolygons, at, place) {
-            NextEntity::BadNext(r) => {
+            Err(r) => {
                 return refusal_is(r, w, 7 * place);
             }
-            NextEntity::NoMore => {
+            Ok(None) => {
                 return is_word(w, 7 * place, 2);
             }
-            NextEntity::Next(e) => {
+            Ok(Some(e)) => {
                 let end = e.end;
                 if !entity_is(e, w, 7 * place) {
                     return false;
@@ -285,17 +283,17 @@ fn stream_answers(s: &[u8], sort: Sort, multipolygons: bool, w: &[u8]) -> bool {
     false
 }
 
-fn part_is(p: Part, from: usize, to: usize) -> bool {
+fn part_is(p: Option<Range>, from: usize, to: usize) -> bool {
     match p {
-        Part::Cut => false,
-        Part::Found(r) => r.from == from && r.to == to,
+        None => false,
+        Some(r) => r.from == from && r.to == to,
     }
 }
 
 fn number_answers(s: &[u8], most: u64, w: &[u8]) -> bool {
     match group::number_at(s, 0, most) {
-        Number::Unread => is_word(w, 0, 1),
-        Number::Read(v, next) => {
+        None => is_word(w, 0, 1),
+        Some((v, next)) => {
             is_word(w, 0, 0)
                 && is_word(w, 1, v % 4294967296)
                 && is_word(w, 2, v / 4294967296)

@@ -2,8 +2,8 @@
 use Prim.Native.Nat.{ℕ, zero, suc, ◌+◌, ◌-◌, ◌<◌, ◌≤◌}
 use native.Mathlib.Omega.{arith}
 use mathlib.Core.Path.{◌≡◌, refl, sym, ◌∙◌, ap, subst}
-use mathlib.Core.Bool.{Bool, true, false}
-use mathlib.Core.List.{List, [], ◌∷◌, ◌++◌}
+use mathlib.Core.Bool.{Bool, false}
+use mathlib.Core.List.{[], ◌∷◌, ◌++◌}
 use lib.Dec.{eqb}
 use lib.ListN.{length}
 use Rattle.base.specs.Bytes.{Bytes}
@@ -16,7 +16,7 @@ use Rattle.cursor.specs.Cursor.{passed, next_char}
 use Rattle.cursor.specs.declared.Cursor.{Cursor}
 use Rattle.cursor.specs.declared.Next.{Next}
 use Rattle.cursor.specs.declared.Next.TheVariants.{Done, Got}
-use Rattle.cursor.proofs.Onward.{Read, read, read_within, Behind, missed}
+use Rattle.cursor.proofs.Onward.{read, read_within, missed}
 use Rattle.lexical.specs.Lexical.{Chars, begins}
 use Rattle.lexical.specs.Lexed.{characters_from, characters_at, Reads, nothing, next}
 

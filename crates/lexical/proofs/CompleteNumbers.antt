@@ -13,10 +13,9 @@ use Rattle.base.specs.Turns.{Turn, more, done, after, turns}
 use Rattle.space.specs.Space.{among, is_white_space}
 use Rattle.cursor.specs.Class.{in_span, can_start_identifier, digit_value, to_digit}
 use Rattle.cursor.specs.Cursor.{most, bump, next_char}
-use Rattle.cursor.specs.Elim.{on-Next, on-Digit}
+use Rattle.cursor.specs.Elim.{on-Next}
 use Rattle.cursor.specs.Number.{dotted, digit_added, takes_dot, digits, digits_turn, read_digits}
 use Rattle.cursor.specs.declared.Cursor.{Cursor}
-use Rattle.cursor.specs.declared.Digit.TheVariants.{NoDigit, IsDigit}
 use Rattle.cursor.specs.declared.Next.{Next}
 use Rattle.cursor.specs.declared.Next.TheVariants.{Done, Got}
 use Rattle.cursor.specs.declared.number.Digits.{Digits}
@@ -24,7 +23,6 @@ use Rattle.cursor.specs.declared.number.Sum.{Sum}
 use Rattle.token_number.specs.Number.{is_bare_dot, finish_number, first_digit, read_unsigned, read_signed, read_number}
 use Rattle.token.specs.Read.{read_after_minus, read_other, starts_number, read_long}
 use Rattle.token_kind.specs.Signs.{is_pair, first_pair, first_letter, get_two_char_simple_token, get_one_char_simple_token}
-use Rattle.token_kind.specs.declared.Reading.TheVariants.{Ready}
 use Rattle.token_kind.specs.declared.Token.{Token}
 use Rattle.token_kind.specs.declared.Token.TheVariants.{Number}
 use Rattle.lexical.specs.Lexical.{Chars, is_digit, is_dot, begins, Run, none, one, IsUnsigned, whole, mixed, fraction, added, added_all, number_of}
@@ -32,13 +30,15 @@ use Rattle.lexical.specs.Lexed.{characters_at}
 use Rattle.lexical.proofs.Characters.{Walk, here, step, walk_past, walk_short, stopped}
 use Rattle.lexical.proofs.Letters.{apart, digit_no_sign, digit_no_pair, digit_no_space, digit_span}
 use Rattle.lexical.proofs.CompleteWords.{Taken, long}
+use Rattle.std.specs.Prelude.{Some, None, Ok}
+use Rattle.base.specs.Option.{on_option}
 
 -- digits
-pub is_digit_lem : (k radix : ℕ) → ltb (digit_value k) radix ≡ true → to_digit k radix ≡ IsDigit (digit_value k)
+pub is_digit_lem : (k radix : ℕ) → ltb (digit_value k) radix ≡ true → to_digit k radix ≡ Some (digit_value k)
 unfolding to_digit pick
 is_digit_lem k radix e = rw e
 
-pub is_no_digit : (k radix : ℕ) → ltb (digit_value k) radix ≡ false → to_digit k radix ≡ NoDigit
+pub is_no_digit : (k radix : ℕ) → ltb (digit_value k) radix ≡ false → to_digit k radix ≡ None
 unfolding to_digit pick
 is_no_digit k radix e = rw e
 
@@ -56,12 +56,12 @@ added_append x [] js = refl
 added_append x (k ∷ ks) js = added_append (added x k) ks js
 
 added_dot : (x : Sum) (ks js : Chars) → added_all x (ks ++ (46 ∷ js)) ≡ added_all (dotted (added_all x ks)) js
-unfolding added_all on-Digit to_digit digit_value pick
+unfolding added_all on_option to_digit digit_value pick
 added_dot x ks js = added_append x ks (46 ∷ js)
 
 added_digit : (x : Sum) (k : ℕ) (ks : Chars) → is_digit k ≡ true → added_all x (k ∷ ks) ≡ added_all (digit_added x (digit_value k)) ks
-unfolding added_all on-Digit
-added_digit x k ks e = ap (λ y. added_all (on-Digit y (dotted x) λ v. digit_added x v) ks) (is_digit_lem k 10 e)
+unfolding added_all on_option
+added_digit x k ks e = ap (λ y. added_all (on_option y (dotted x) λ v. digit_added x v) ks) (is_digit_lem k 10 e)
 
 digit_dot : (x : Sum) (v : ℕ) → (digit_added x v).dot ≡ x.dot
 unfolding digit_added pick
@@ -107,7 +107,7 @@ not_bare x {j} {js} d (one e r) =
 abbrev digits_next : Sum → Cursor → Next → Turn Digits Digits
 digits_next x c z =
     on-Next z (λ d. done (digits x c)) λ k d.
-    on-Digit (to_digit k 10)
+    on_option (to_digit k 10)
     (pick (takes_dot x k) (more (digits (dotted x) d)) (done (digits x c)))
     λ v. more (digits (digit_added x v) d)
 
@@ -118,7 +118,7 @@ module _ (s : Bytes) where
       → Run is_digit true ks
       → m ≡ length ks + n
       → turns (digits_turn s) y m (digits x c) ≡ turns (digits_turn s) y n (digits (added_all x ks) d)
-  unfolding turns on-Next on-Digit added_all
+  unfolding turns on-Next on_option added_all
   digit_run y m n x {c = c} here none f = let g : m ≡ n = omega arith in ap (λ m. turns (digits_turn s) y m (digits x c)) g
   digit_run y zero n x (step q w) (one e r) f = absurd (omega arith)
   digit_run y (suc m) n x (step q w) (one {k = k} e r) f =
@@ -129,7 +129,7 @@ module _ (s : Bytes) where
       → next_char s c ≡ Got 46 d
       → x.dot ≡ false
       → turns (digits_turn s) y (suc n) (digits x c) ≡ turns (digits_turn s) y n (digits (dotted x) d)
-  unfolding turns on-Next on-Digit to_digit digit_value takes_dot pick
+  unfolding turns on-Next on_option to_digit digit_value takes_dot pick
   dot_turn y n x c q e = rw (q, e)
 
   -- behind a fraction only a digit goes on
@@ -138,7 +138,7 @@ module _ (s : Bytes) where
       → begins is_digit (characters_at s c.at) ≡ false
       → x.dot ≡ true
       → turns (digits_turn s) y (suc n) (digits x c) ≡ digits x c
-  unfolding turns on-Next on-Digit takes_dot pick
+  unfolding turns on-Next on_option takes_dot pick
   fraction_stop y n x c b e = go (next_char s c) refl
     where
       go :
@@ -154,7 +154,7 @@ module _ (s : Bytes) where
       → begins is_dot (characters_at s c.at) ≡ false
       → x.dot ≡ false
       → turns (digits_turn s) y (suc n) (digits x c) ≡ digits x c
-  unfolding turns on-Next on-Digit takes_dot pick
+  unfolding turns on-Next on_option takes_dot pick
   whole_stop y n x c b f e = go (next_char s c) refl
     where
       go :
@@ -220,8 +220,8 @@ module _ (s : Bytes) where
       → Run is_digit true (k ∷ ks)
       → begins is_digit (characters_at s e.at) ≡ false
       → begins is_dot (characters_at s e.at) ≡ false
-      → read_unsigned s minus k d ≡ Ready (Number (number_of minus (k ∷ ks))) e
-  unfolding read_unsigned finish_number is_bare_dot on-Digit pick
+      → read_unsigned s minus k d ≡ Ok (Number (number_of minus (k ∷ ks)), e)
+  unfolding read_unsigned finish_number is_bare_dot on_option pick
   whole_unsigned minus {k = k} w (one h r) b f =
       let x = first_digit (digit_value k) false in
       rw (is_digit_lem k 10 h, read_whole x w r b f refl, digits_dot x r)
@@ -232,8 +232,8 @@ module _ (s : Bytes) where
       → Run is_digit true (k ∷ ks)
       → Run is_digit true (j ∷ js)
       → begins is_digit (characters_at s e.at) ≡ false
-      → read_unsigned s minus k d ≡ Ready (Number (number_of minus (k ∷ ks ++ (46 ∷ j ∷ js)))) e
-  unfolding read_unsigned finish_number on-Digit pick
+      → read_unsigned s minus k d ≡ Ok (Number (number_of minus (k ∷ ks ++ (46 ∷ j ∷ js))), e)
+  unfolding read_unsigned finish_number on_option pick
   mixed_unsigned minus {k = k} {j = j} {ks = ks} {js = js} w (one h r) r' b =
       let x = first_digit (digit_value k) false in
       let z = dotted (added_all x ks) in
@@ -244,8 +244,8 @@ module _ (s : Bytes) where
       → Walk s d (j ∷ js) e
       → Run is_digit true (j ∷ js)
       → begins is_digit (characters_at s e.at) ≡ false
-      → read_unsigned s minus 46 d ≡ Ready (Number (number_of minus (46 ∷ j ∷ js))) e
-  unfolding read_unsigned finish_number on-Digit to_digit digit_value pick
+      → read_unsigned s minus 46 d ≡ Ok (Number (number_of minus (46 ∷ j ∷ js)), e)
+  unfolding read_unsigned finish_number on_option to_digit digit_value pick
   fraction_unsigned minus w r b =
       let x = first_digit 0 true in
       rw (read_fraction x w r b refl, not_bare x refl r)
@@ -254,7 +254,7 @@ module _ (s : Bytes) where
       (minus : Bool) {d e : Cursor} {k : ℕ} {ks : Chars}
       → IsUnsigned (k ∷ ks) (characters_at s e.at)
       → Walk s d ks e
-      → read_unsigned s minus k d ≡ Ready (Number (number_of minus (k ∷ ks))) e
+      → read_unsigned s minus k d ≡ Ok (Number (number_of minus (k ∷ ks)), e)
   unsigned minus (whole r b f) w = whole_unsigned minus w r b f
   unsigned minus (mixed r r' b) w = mixed_unsigned minus w r r' b
   unsigned minus (fraction r b) w = fraction_unsigned minus w r b
@@ -263,7 +263,7 @@ module _ (s : Bytes) where
       (c d : Cursor) (k : ℕ) {t : Token} {e : Cursor}
       → next_char s c ≡ Got k d
       → is_digit k ≡ true
-      → read_unsigned s false k d ≡ Ready t e
+      → read_unsigned s false k d ≡ Ok (t, e)
       → Taken s c t e
   unfolding digit_value read_long starts_number read_number pick
   digit_taken c d k q h r =
@@ -279,7 +279,7 @@ module _ (s : Bytes) where
       )
       r)
 
-  dot_taken : (c d : Cursor) {t : Token} {e : Cursor} → next_char s c ≡ Got 46 d → read_unsigned s false 46 d ≡ Ready t e → Taken s c t e
+  dot_taken : (c d : Cursor) {t : Token} {e : Cursor} → next_char s c ≡ Got 46 d → read_unsigned s false 46 d ≡ Ok (t, e) → Taken s c t e
   unfolding is_white_space among get_two_char_simple_token first_pair is_pair get_one_char_simple_token first_letter read_long can_start_identifier starts_number read_number pick
   dot_taken c d q r = long s c d 46 q refl refl (λ j. refl) refl r
 
@@ -292,7 +292,7 @@ module _ (s : Bytes) where
   number_taken (mixed {k = k} (one h r) r' b) (step {c = c} {d = d} q w) = digit_taken c d k q h (unsigned false (mixed (one h r) r' b) w)
   number_taken (fraction r b) (step {c = c} {d = d} q w) = dot_taken c d q (unsigned false (fraction r b) w)
 
-  signed : (minus : Bool) {d e : Cursor} {ks : Chars} → IsUnsigned ks (characters_at s e.at) → Walk s d ks e → read_signed s minus d ≡ Ready (Number (number_of minus ks)) e
+  signed : (minus : Bool) {d e : Cursor} {ks : Chars} → IsUnsigned ks (characters_at s e.at) → Walk s d ks e → read_signed s minus d ≡ Ok (Number (number_of minus ks), e)
   unfolding read_signed on-Next
   signed minus (whole r b f) (step q w) = rw q (unsigned minus (whole r b f) w)
   signed minus (mixed r r' b) (step q w) = rw q (unsigned minus (mixed r r' b) w)

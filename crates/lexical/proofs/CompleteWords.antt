@@ -7,8 +7,10 @@ use mathlib.Core.List.{List, [], ◌∷◌, ◌++◌}
 use lib.Dec.{eqb}
 use lib.ListN.{length, get_or}
 use borrow.Author.Tests.{eqb-true}
+use Rattle.base.proofs.Options.{none_some}
 use Rattle.base.specs.Bytes.{Bytes, ascii, same}
 use Rattle.base.specs.Choice.{pick, by-test, clash}
+use Rattle.base.specs.declared.Range.{Range}
 use Rattle.base.specs.Turns.{Turn, more, done, after, turns}
 use Rattle.space.specs.Space.{among, is_white_space}
 use Rattle.cursor.specs.Class.{can_be_in_at_directive, can_start_identifier, can_continue_identifier}
@@ -17,8 +19,6 @@ use Rattle.cursor.specs.Elim.{on-Next}
 use Rattle.cursor.specs.declared.Cursor.{Cursor}
 use Rattle.cursor.specs.declared.Next.{Next}
 use Rattle.cursor.specs.declared.Next.TheVariants.{Done, Got}
-use Rattle.token_kind.specs.Elim.{on-Sign}
-use Rattle.token.specs.Elim.{on-Quoted, on-PairRead}
 use Rattle.token.specs.Read.{
   range,
   skip_one,
@@ -39,19 +39,17 @@ use Rattle.token.specs.Read.{
   read_pair,
   read_token,
 }
+use Rattle.token_kind.specs.Reason.{Reading, open_string, lexer_error}
+use Rattle.token_kind.specs.declared.LexerError.{LexerError}
 use Rattle.token_kind.specs.Signs.{Spelled, two_letter, one_letter, is_pair, first_pair, first_letter, get_two_char_simple_token, get_one_char_simple_token}
-use Rattle.token.specs.declared.PairRead.TheVariants.{NoPair, Pair}
-use Rattle.token.specs.declared.Quoted.{Quoted}
-use Rattle.token.specs.declared.Quoted.TheVariants.{Unclosed, Inside}
-use Rattle.token_kind.specs.declared.Reading.TheVariants.{Ready}
-use Rattle.token_kind.specs.declared.Sign.{Sign}
-use Rattle.token_kind.specs.declared.Sign.TheVariants.{NoSign, IsSign}
 use Rattle.token_kind.specs.declared.Token.{Token}
 use Rattle.token_kind.specs.declared.Token.TheVariants.{Import, Identifier, Text, ColorRef}
 use Rattle.lexical.specs.Lexical.{Chars, is_digit, is_quote, is_gap, pairs_with, begins, Run, none, one, IsGap, no_gap, a_gap}
 use Rattle.lexical.specs.Lexed.{characters_at}
 use Rattle.lexical.proofs.Characters.{Walk, here, step, walk_split, walk_past, walk_short, stops_got, stop_split}
 use Rattle.lexical.proofs.Letters.{apart, starts_no_sign, starts_no_pair, starts_no_space, digit_span, directive_no_space, word_bytes}
+use Rattle.std.specs.Prelude.{Option, Some, None, Result, Ok, Err}
+use Rattle.base.specs.Option.{on_option, on_option2, on_result}
 
 -- a token is read at c, up to e, and no blank begins there
 pub record Taken (s : Bytes) (c : Cursor) (t : Token) (e : Cursor) : Type 0 where
@@ -60,7 +58,7 @@ pub record Taken (s : Bytes) (c : Cursor) (t : Token) (e : Cursor) : Type 0 wher
   pub got : next_char s c ≡ Got first behind
   pub no_space : is_white_space first ≡ false
   pub no_slash : eqb first 47 ≡ false
-  pub ready : read_token s c.at first behind ≡ Ready t e
+  pub ready : read_token s c.at first behind ≡ Ok (t, e)
 
 -- what begins a sign is one of the letters of the tables
 abbrev none_of_lem : (ℕ → Bool) → List Spelled → Bool
@@ -75,37 +73,34 @@ none_tail : (p : ℕ → Bool) (e : Spelled) (es : List Spelled) → none_of_lem
 unfolding pick
 none_tail p e es o = by-test (p (get_or e.letters 0 0)) (λ t. clash o (rw t)) (λ t. rw t at o)
 
-no_sign : {t : Token} → NoSign ≡ IsSign t → ⊥
-no_sign q = let z : ◌≡◌ {A = ℕ} 0 1 = cc in omega arith
-
-first_pair_lem : (p : ℕ → Bool) (es : List Spelled) (a b : ℕ) {t : Token} → none_of_lem p es ≡ true → first_pair es a b ≡ IsSign t → p a ≡ false
+first_pair_lem : (p : ℕ → Bool) (es : List Spelled) (a b : ℕ) {t : Token} → none_of_lem p es ≡ true → first_pair es a b ≡ Some t → p a ≡ false
 unfolding first_pair is_pair pick
-first_pair_lem p [] a b o h = absurd (no_sign h)
+first_pair_lem p [] a b o h = none_some h
 first_pair_lem p (e ∷ es) a b o h =
     by-test (eqb (get_or e.letters 0 0) a)
     (λ u. ap p (sym (eqb-true (get_or e.letters 0 0) a u)) ∙ none_head p e es o)
     (λ u. first_pair_lem p es a b (none_tail p e es o) (rw u at h))
 
-first_letter_lem : (p : ℕ → Bool) (es : List Spelled) (a : ℕ) {t : Token} → none_of_lem p es ≡ true → first_letter es a ≡ IsSign t → p a ≡ false
+first_letter_lem : (p : ℕ → Bool) (es : List Spelled) (a : ℕ) {t : Token} → none_of_lem p es ≡ true → first_letter es a ≡ Some t → p a ≡ false
 unfolding first_letter pick
-first_letter_lem p [] a o h = absurd (no_sign h)
+first_letter_lem p [] a o h = none_some h
 first_letter_lem p (e ∷ es) a o h =
     by-test (eqb a (get_or e.letters 0 0))
     (λ u. ap p (eqb-true a (get_or e.letters 0 0) u) ∙ none_head p e es o)
     (λ u. first_letter_lem p es a (none_tail p e es o) (rw u at h))
 
-pair_first : (p : ℕ → Bool) (a b : ℕ) {t : Token} → get_two_char_simple_token a b ≡ IsSign t → none_of_lem p two_letter ≡ true → p a ≡ false
+pair_first : (p : ℕ → Bool) (a b : ℕ) {t : Token} → get_two_char_simple_token a b ≡ Some t → none_of_lem p two_letter ≡ true → p a ≡ false
 unfolding get_two_char_simple_token
 pair_first p a b h o = first_pair_lem p two_letter a b o h
 
-sign_first : (p : ℕ → Bool) (a : ℕ) {t : Token} → get_one_char_simple_token a ≡ IsSign t → none_of_lem p one_letter ≡ true → p a ≡ false
+sign_first : (p : ℕ → Bool) (a : ℕ) {t : Token} → get_one_char_simple_token a ≡ Some t → none_of_lem p one_letter ≡ true → p a ≡ false
 unfolding get_one_char_simple_token
 sign_first p a h o = first_letter_lem p one_letter a o h
 
-unpaired : (x : Sign) → on-Sign x false (λ t. true) ≡ false → x ≡ NoSign
-unfolding on-Sign
-unpaired NoSign e = refl
-unpaired (IsSign t) e = clash refl e
+unpaired : (x : Option Token) → on_option x false (λ t. true) ≡ false → x ≡ None
+unfolding on_option
+unpaired None e = refl
+unpaired (Some t) e = clash refl e
 
 -- a turn of a run once the next character is known
 abbrev run_next : (ℕ → Bool) → Cursor → Next → Turn Cursor Cursor
@@ -140,12 +135,12 @@ module _ (s : Bytes) where
   identifier_end_lem {c} {ks = ks} w r b = let l = walk_short ks w in run_turns can_continue_identifier c (suc (length s)) w r b (omega arith)
 
   quoted_turns :
-      (x : Quoted) (from n : ℕ) {c d e : Cursor} {ks : Chars}
+      (x : Result (Range × Cursor) LexerError) (from n : ℕ) {c d e : Cursor} {ks : Chars}
       → Walk s c ks d
       → Run is_quote false ks
       → next_char s d ≡ Got 34 e
       → length ks < n
-      → turns (quoted_turn s from) x n c ≡ Inside (range from d.at) e
+      → turns (quoted_turn s from) x n c ≡ Ok (range from d.at, e)
   unfolding turns on-Next pick
   quoted_turns x from zero w r q l = absurd (omega arith)
   quoted_turns x from (suc n) here none q l = rw q
@@ -156,16 +151,16 @@ module _ (s : Bytes) where
       → Walk s c ks d
       → Run is_quote false ks
       → next_char s d ≡ Got 34 e
-      → read_quoted s c ≡ Inside (range c.at d.at) e
+      → read_quoted s c ≡ Ok (range c.at d.at, e)
   unfolding read_quoted
-  quoted {c} {ks = ks} w r q = let l = walk_short ks w in quoted_turns (Unclosed c) c.at (suc (length s)) w r q (omega arith)
+  quoted {c} {ks = ks} w r q = let l = walk_short ks w in quoted_turns (Err (lexer_error open_string c)) c.at (suc (length s)) w r q (omega arith)
 
   -- a token that is no sign is read by readLong
-  no_pair : (a : ℕ) (d : Cursor) → ((j : ℕ) → get_two_char_simple_token a j ≡ NoSign) → read_pair s a d ≡ NoPair
-  unfolding read_pair on-Next on-Sign
+  no_pair : (a : ℕ) (d : Cursor) → ((j : ℕ) → get_two_char_simple_token a j ≡ None) → read_pair s a d ≡ None
+  unfolding read_pair on-Next on_option
   no_pair a d h = go (next_char s d)
     where
-      go : (x : Next) → on-Next x (λ d. NoPair) (λ j e. on-Sign (get_two_char_simple_token a j) NoPair λ t. Pair t e) ≡ NoPair
+      go : (x : Next) → ◌≡◌ {A = Option (Token × Cursor)} (on-Next x (λ d. None) λ j e. on_option (get_two_char_simple_token a j) None λ t. Some (t, e)) None
       go (Done e) = refl
       go (Got j e) = rw (h j)
 
@@ -174,11 +169,11 @@ module _ (s : Bytes) where
       → next_char s c ≡ Got k d
       → is_white_space k ≡ false
       → eqb k 47 ≡ false
-      → ((j : ℕ) → get_two_char_simple_token k j ≡ NoSign)
-      → get_one_char_simple_token k ≡ NoSign
-      → read_long s c.at k d ≡ Ready t e
+      → ((j : ℕ) → get_two_char_simple_token k j ≡ None)
+      → get_one_char_simple_token k ≡ None
+      → read_long s c.at k d ≡ Ok (t, e)
       → Taken s c t e
-  unfolding read_token read_single on-PairRead on-Sign
+  unfolding read_token read_single on_option
   long c d k q f g p o r =
       record { first = k; behind = d; got = q; no_space = f; no_slash = g; ready = rw (no_pair k d p, o) r }
 
@@ -222,7 +217,7 @@ module _ (s : Bytes) where
       → Run is_quote false ks
       → next_char s e ≡ Got 34 g
       → Taken s c (Text (range d.at e.at)) g
-  unfolding is_white_space among get_two_char_simple_token first_pair is_pair get_one_char_simple_token first_letter read_long read_string can_start_identifier on-Quoted pick
+  unfolding is_white_space among get_two_char_simple_token first_pair is_pair get_one_char_simple_token first_letter read_long read_string can_start_identifier on_result pick
   string_taken c d e g q w r p = long c d 34 q refl refl (λ j. refl) refl (rw (quoted w r p))
 
   -- signs
@@ -230,9 +225,9 @@ module _ (s : Bytes) where
       (c d e : Cursor) (a b : ℕ) {t : Token}
       → next_char s c ≡ Got a d
       → next_char s d ≡ Got b e
-      → get_two_char_simple_token a b ≡ IsSign t
+      → get_two_char_simple_token a b ≡ Some t
       → Taken s c t e
-  unfolding read_token read_pair on-Next on-Sign on-PairRead pick is_white_space among
+  unfolding read_token read_pair on-Next on_option pick is_white_space among
   pair_taken c d e a b q p h =
       record {
         first = a;
@@ -246,10 +241,10 @@ module _ (s : Bytes) where
   pub sign_taken :
       (c d : Cursor) (a : ℕ) {t : Token}
       → next_char s c ≡ Got a d
-      → get_one_char_simple_token a ≡ IsSign t
+      → get_one_char_simple_token a ≡ Some t
       → begins (pairs_with a) (characters_at s d.at) ≡ false
       → Taken s c t d
-  unfolding read_token read_pair read_single on-Next on-Sign on-PairRead pick is_white_space among
+  unfolding read_token read_pair read_single on-Next on_option pick is_white_space among
   sign_taken c d a {t = t} q h b =
       record {
         first = a;
@@ -259,7 +254,7 @@ module _ (s : Bytes) where
         no_slash = sign_first (λ k. eqb k 47) a h refl;
         ready =
             stop_split s d (pairs_with a)
-            (λ y. on-PairRead (on-Next y (λ e. NoPair) λ j e. on-Sign (get_two_char_simple_token a j) NoPair λ t. Pair t e) (read_single s c.at a d) (λ t e. Ready t e) ≡ Ready t d)
+            (λ y. ◌≡◌ {A = Reading} (on_option2 (on-Next y (λ e. None) λ j e. on_option (get_two_char_simple_token a j) None λ t. Some (t, e)) (read_single s c.at a d) λ t e. Ok (t, e)) (Ok (t, d)))
             b
             (λ e. rw h)
             (λ j e n. rw (unpaired (get_two_char_simple_token a j) n, h));
@@ -287,7 +282,7 @@ module _ (s : Bytes) where
   at_taken :
       (c d : Cursor) {t : Token} {e : Cursor}
       → next_char s c ≡ Got 64 d
-      → read_at_directive s d ≡ Ready t e
+      → read_at_directive s d ≡ Ok (t, e)
       → Taken s c t e
   unfolding is_white_space among get_two_char_simple_token first_pair is_pair get_one_char_simple_token first_letter read_long pick
   at_taken c d q r = long c d 64 q refl refl (λ j. refl) refl r
@@ -339,8 +334,8 @@ module _ (s : Bytes) where
       → next_char s e ≡ Got 34 f
       → IsGap 41 after (characters_at s g.at)
       → Walk s f after g
-      → read_import s c ≡ Ready (Import (range d.at e.at)) g
-  unfolding read_import on-Next on-Quoted pick
+      → read_import s c ≡ Ok (Import (range d.at e.at), g)
+  unfolding read_import on-Next on_result pick
   import_read e f (step q here) w r p a v = rw (q, quoted w r p, gap_passed 41 a v)
 
   gap_no_word : (k : ℕ) → is_gap 40 k ≡ true → can_be_in_at_directive k ≡ false

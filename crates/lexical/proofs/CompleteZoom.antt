@@ -2,7 +2,7 @@
 use Prim.Native.Nat.{ℕ, suc, ◌+◌, ◌-◌, ◌*◌, ◌<◌}
 use native.Mathlib.Omega.{arith}
 use mathlib.Core.Path.{◌≡◌, refl, sym, ◌∙◌, subst}
-use mathlib.Core.Bool.{true, false}
+use mathlib.Core.Bool.{Bool, true, false}
 use mathlib.Core.List.{[], ◌∷◌, ◌++◌}
 use lib.Dec.{eqb, ltb}
 use lib.ListN.{length}
@@ -14,11 +14,9 @@ use Rattle.space.specs.Space.{among, is_white_space}
 use Rattle.color.specs.Named.{rgb}
 use Rattle.cursor.specs.Class.{can_start_identifier, digit_value, to_digit}
 use Rattle.cursor.specs.Cursor.{bump, next_char}
-use Rattle.cursor.specs.Elim.{on-Next, on-Digit}
+use Rattle.cursor.specs.Elim.{on-Next}
 use Rattle.cursor.specs.declared.Cursor.{Cursor}
 use Rattle.cursor.specs.declared.Next.TheVariants.{Got}
-use Rattle.token_kind.specs.Elim.{on-ZoomLevel}
-use Rattle.token_zoom.specs.Elim.{on-DigitRead}
 use Rattle.token.specs.Read.{starts_number, read_other, read_long}
 use Rattle.token_kind.specs.Signs.{is_pair, first_pair, first_letter, get_two_char_simple_token, get_one_char_simple_token}
 use Rattle.token_zoom.specs.Zoom.{
@@ -28,21 +26,14 @@ use Rattle.token_zoom.specs.Zoom.{
   hex_turn,
   read_hex_digits,
   read_color,
-  level_read,
   read_zoom_level,
-  hyphen,
   read_hyphen,
-  is_no_level,
   ranged,
   zoom_range,
   read_levels,
   read_zoom_range,
 }
-use Rattle.token_zoom.specs.declared.DigitRead.TheVariants.{NoneRead, OneRead}
-use Rattle.token_kind.specs.declared.Reading.TheVariants.{Ready}
 use Rattle.token_kind.specs.declared.Token.TheVariants.{ZoomRange, Color}
-use Rattle.token_kind.specs.declared.ZoomLevel.{ZoomLevel}
-use Rattle.token_kind.specs.declared.ZoomLevel.TheVariants.{NoLevel, Level}
 use Rattle.token_zoom.specs.declared.Hex.{Hex}
 use Rattle.token_laws.proofs.Colors.{six_digits_lem}
 use Rattle.lexical.specs.Lexical.{
@@ -70,6 +61,8 @@ use Rattle.lexical.proofs.Letters.{apart}
 use Rattle.lexical.proofs.SoundZoom.{three_digits_lem}
 use Rattle.lexical.proofs.CompleteWords.{Taken, long}
 use Rattle.lexical.proofs.CompleteNumbers.{is_digit_lem, is_no_digit}
+use Rattle.std.specs.Prelude.{Option, Some, None, Ok}
+use Rattle.base.specs.Option.{on_option}
 
 below : (k : ℕ) → is_hex_digit k ≡ true → digit_value k < 16
 below k h = ltb-true (digit_value k) 16 h
@@ -80,15 +73,15 @@ module _ (s : Bytes) where
       (radix : ℕ) (c d : Cursor) {k : ℕ}
       → next_char s c ≡ Got k d
       → ltb (digit_value k) radix ≡ true
-      → read_digit s radix c ≡ OneRead (digit_value k) d
-  unfolding read_digit on-Next on-Digit
+      → read_digit s radix c ≡ Some (digit_value k, d)
+  unfolding read_digit on-Next on_option
   one_read radix c d {k} q e = rw (q, is_digit_lem k radix e)
 
-  none_read : (radix : ℕ) (c : Cursor) → begins (λ k. ltb (digit_value k) radix) (characters_at s c.at) ≡ false → read_digit s radix c ≡ NoneRead
-  unfolding read_digit on-Next on-Digit
+  none_read : (radix : ℕ) (c : Cursor) → begins (λ k. ltb (digit_value k) radix) (characters_at s c.at) ≡ false → read_digit s radix c ≡ None
+  unfolding read_digit on-Next on_option
   none_read radix c b =
       stop_split s c (λ k. ltb (digit_value k) radix)
-      (λ y. on-Next y (λ d. NoneRead) (λ k d. on-Digit (to_digit k radix) NoneRead λ v. OneRead v d) ≡ NoneRead)
+      (λ y. ◌≡◌ {A = Option (ℕ × Cursor)} (on-Next y (λ d. None) (λ k d. on_option (to_digit k radix) None λ v. Some (v, d))) None)
       b
       (λ d. refl)
       (λ k d e. rw (is_no_digit k radix e))
@@ -98,24 +91,24 @@ module _ (s : Bytes) where
       {c d : Cursor} {a : Chars} {m : ℕ}
       → IsLevel a (characters_at s d.at) m
       → Walk s c a d
-      → read_zoom_level s c ≡ level_read (Level m) d
-  unfolding read_zoom_level on-DigitRead
+      → read_zoom_level s c ≡ (Some m, d)
+  unfolding read_zoom_level on_option
   level (one_digit h b) (step {c = c} {d = d} q here) = rw (one_read 10 c d q h, none_read 10 d b)
   level (two_digits h g) (step {c = c} {d = d} q (step {d = e} p here)) = rw (one_read 10 c d q h, one_read 10 d e p g)
 
-  no_level : (c : Cursor) → begins is_digit (characters_at s c.at) ≡ false → read_zoom_level s c ≡ level_read NoLevel c
-  unfolding read_zoom_level on-DigitRead
+  no_level : (c : Cursor) → begins is_digit (characters_at s c.at) ≡ false → read_zoom_level s c ≡ (None, c)
+  unfolding read_zoom_level on_option
   no_level c b = rw (none_read 10 c b)
 
-  a_hyphen : (c d : Cursor) → next_char s c ≡ Got 45 d → read_hyphen s c ≡ hyphen true d
+  a_hyphen : (c d : Cursor) → next_char s c ≡ Got 45 d → read_hyphen s c ≡ (true, d)
   unfolding read_hyphen on-Next pick
   a_hyphen c d q = rw q
 
-  no_hyphen : (c : Cursor) → begins is_hyphen (characters_at s c.at) ≡ false → read_hyphen s c ≡ hyphen false c
+  no_hyphen : (c : Cursor) → begins is_hyphen (characters_at s c.at) ≡ false → read_hyphen s c ≡ (false, c)
   unfolding read_hyphen on-Next pick
   no_hyphen c b =
       stop_split s c is_hyphen
-      (λ y. on-Next y (λ d. hyphen false c) (λ k d. pick (eqb k 45) (hyphen true d) (hyphen false c)) ≡ hyphen false c)
+      (λ y. ◌≡◌ {A = Bool × Cursor} (on-Next y (λ d. (false, c)) (λ k d. pick (eqb k 45) (true, d) (false, c))) (false, c))
       b
       (λ d. refl)
       (λ k d e. rw e)
@@ -127,7 +120,7 @@ module _ (s : Bytes) where
   level_no_hyphen (two_digits {a = a} h g) (step {c = c} {d = d} q w) = stops_got s c d is_hyphen q (apart is_digit a 45 h refl)
 
   module _ {c d : Cursor} (a : Chars) {js : Chars} {m : ℕ} where
-    first_level : {e : Cursor} → IsLevel a (js ++ characters_at s e.at) m → Walk s c a d → Walk s d js e → read_zoom_level s c ≡ level_read (Level m) d
+    first_level : {e : Cursor} → IsLevel a (js ++ characters_at s e.at) m → Walk s c a d → Walk s d js e → read_zoom_level s c ≡ (Some m, d)
     first_level l w v = level (subst (λ r. IsLevel a r m) (sym (walk_characters v)) l) w
 
   up_levels :
@@ -137,16 +130,16 @@ module _ (s : Bytes) where
       → next_char s d ≡ Got 45 f
       → Walk s f [] e
       → begins is_digit (characters_at s e.at) ≡ false
-      → read_levels s c ≡ Ready (ZoomRange (Level m) NoLevel) e
-  unfolding read_levels zoom_range ranged is_no_level on-ZoomLevel pick
+      → read_levels s c ≡ Ok (ZoomRange (Some m) None, e)
+  unfolding read_levels zoom_range ranged on_option pick
   up_levels a d {f = f} l w q here b = rw (first_level a l w (step q here), a_hyphen d f q, no_level f b)
 
   levels :
-      {c e : Cursor} {ks : Chars} {min max : ZoomLevel}
+      {c e : Cursor} {ks : Chars} {min max : Option ℕ}
       → IsZooms ks (characters_at s e.at) min max
       → Walk s c ks e
-      → read_levels s c ≡ Ready (ZoomRange min max) e
-  unfolding read_levels zoom_range ranged is_no_level on-ZoomLevel digit_value pick
+      → read_levels s c ≡ Ok (ZoomRange min max, e)
+  unfolding read_levels zoom_range ranged on_option digit_value pick
   levels {e = e} (exactly l b f) w = rw (level l w, no_hyphen e f, no_level e b)
   levels (unsaid {a = a} l g) w =
       let v = walk_split a w in
@@ -159,7 +152,7 @@ module _ (s : Bytes) where
       rw (first_level a l v.walked (step v.got v.left), a_hyphen v.stop v.behind v.got, level g v.left)
 
   pub zoom_taken :
-      (c d f : Cursor) {e : Cursor} {ks : Chars} {min max : ZoomLevel}
+      (c d f : Cursor) {e : Cursor} {ks : Chars} {min max : Option ℕ}
       → next_char s c ≡ Got 124 d
       → next_char s d ≡ Got 122 f
       → IsZooms ks (characters_at s e.at) min max
@@ -175,7 +168,7 @@ module _ (s : Bytes) where
       → next_char s c ≡ Got k d
       → is_hex_digit k ≡ true
       → turns (hex_turn s) y m (hex i v c) ≡ turns (hex_turn s) y n (hex (bump i) (hex_added v (digit_value k)) d)
-  unfolding turns on-DigitRead
+  unfolding turns on_option
   hex_turn_lem y m n i v c d f q e = rw (f, one_read 16 c d q e)
 
   hex_stop :
@@ -183,7 +176,7 @@ module _ (s : Bytes) where
       → m ≡ suc n
       → begins is_hex_digit (characters_at s c.at) ≡ false
       → turns (hex_turn s) y m (hex i v c) ≡ hex i v c
-  unfolding turns on-DigitRead
+  unfolding turns on_option
   hex_stop y m n i v c f b = rw (f, none_read 16 c b)
 
   three_read :

@@ -9,7 +9,7 @@ use lib.ListN.{length, length-append}
 use Rattle.base.specs.Bytes.{Bytes}
 use Rattle.base.specs.Choice.{pick}
 use Rattle.base.specs.declared.Range.{Range}
-use Rattle.base.specs.Turns.{after, turns}
+use Rattle.base.specs.Turns.{turns}
 use Rattle.space.specs.Space.{among, is_white_space}
 use Rattle.utf8.specs.Utf8.{char_at}
 use Rattle.utf8.specs.declared.Char.TheVariants.{Code}
@@ -32,7 +32,6 @@ use Rattle.cursor.specs.declared.Next.TheVariants.{Done, Got}
 use Rattle.cursor.specs.declared.Significant.{Significant}
 use Rattle.cursor.specs.declared.Significant.TheVariants.{Ended, Found}
 use Rattle.cursor.proofs.Onward.{read, missed}
-use Rattle.token_kind.specs.Elim.{on-Reading}
 use Rattle.token.specs.Read.{range}
 use Rattle.token.specs.Step.{step_of}
 use Rattle.token.specs.declared.Step.TheVariants.{Took}
@@ -94,6 +93,7 @@ use Rattle.lexical.proofs.CompleteWords.{
 }
 use Rattle.lexical.proofs.CompleteNumbers.{number_taken, plus_taken, minus_taken}
 use Rattle.lexical.proofs.CompleteZoom.{zoom_taken, three_taken, six_taken}
+use Rattle.base.specs.Option.{on_result}
 
 nil_cons : {k : ℕ} {ks : Chars} → [] ≡ k ∷ ks → ⊥
 nil_cons q = let z : ◌≡◌ {A = ℕ} 0 1 = cc in omega arith
@@ -312,7 +312,7 @@ module _ (s : Bytes) where
       → Walk s c ks p
       → (x : Taken s p t e)
       → step_of s c ≡ Took t x.behind.line x.behind.character e
-  unfolding step_of next_significant_char on-Significant on-Reading
+  unfolding step_of next_significant_char on-Significant on_result
   step_taken {c} {p} {ks = ks} b w x =
       let l = walk_short ks w in
       let b' = subst (IsBlank ks) (characters_got s p x.behind x.got) b in

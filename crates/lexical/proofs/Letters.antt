@@ -1,30 +1,27 @@
 -- Letters, digits and signs are different characters, and the bytes of a name are its characters.
-use Prim.Native.Nat.{ℕ, zero, suc, ◌+◌, ◌-◌, ◌<◌, ◌≤◌}
+use Prim.Native.Nat.{ℕ, ◌+◌, ◌-◌, ◌<◌, ◌≤◌}
 use native.Mathlib.Omega.{arith}
-use mathlib.Core.Path.{◌≡◌, refl, sym, ◌∙◌, ap, subst}
-use mathlib.Core.Bool.{Bool, true, false, ◌&&◌, ◌||◌}
+use mathlib.Core.Path.{◌≡◌, refl, sym, ◌∙◌, ap}
+use mathlib.Core.Bool.{Bool, true, false, ◌||◌}
 use mathlib.Core.List.{List, [], ◌∷◌, ◌++◌}
 use lib.Dec.{eqb, ltb, leb}
 use lib.ListN.{length, get_or, take, drop, take-append-drop}
-use lib.Seq.{take-append-add, take-append_seam, drop-drop}
+use lib.Seq.{take-append-add, drop-drop}
 use borrow.Author.Tests.{eqb-true, ltb-true, ltb-false, leb-true, lt-ltb, le-ltb, le-leb, lt-leb}
 use Rattle.base.specs.Bytes.{Bytes, within, between}
-use Rattle.base.specs.Choice.{pick, pick_split, by-test, clash, and_right}
+use Rattle.base.specs.Choice.{pick, by-test, clash, and_right}
 use Rattle.scalar.specs.Scalar.{encode_of}
 use Rattle.space.specs.Space.{white_space, among, is_white_space}
 use Rattle.utf8.specs.Utf8.{char_at, spelled}
-use Rattle.utf8.specs.declared.Char.TheVariants.{Code}
 use Rattle.utf8.proofs.Inverse.{encode_decode}
-use Rattle.utf8.proofs.Rows.{char_within}
-use Rattle.cursor.specs.Class.{in_span, can_be_in_at_directive, can_start_identifier, can_continue_identifier, digit_value}
+use Rattle.cursor.specs.Class.{in_span, can_be_in_at_directive, can_start_identifier, digit_value}
 use Rattle.cursor.specs.declared.Cursor.{Cursor}
 use Rattle.token.specs.Read.{range}
 use Rattle.token_kind.specs.Signs.{Spelled, two_letter, one_letter, is_pair, first_pair, first_letter, get_two_char_simple_token, get_one_char_simple_token}
-use Rattle.token_kind.specs.declared.Sign.{Sign}
-use Rattle.token_kind.specs.declared.Sign.TheVariants.{NoSign, IsSign}
 use Rattle.lexical.specs.Lexical.{Chars, is_digit, Run, none, one}
 use Rattle.lexical.specs.Lexed.{Reads, nothing, next}
 use Rattle.lexical.proofs.Characters.{Walk, walk_reads}
+use Rattle.std.specs.Prelude.{Some, None}
 
 -- a character of a class is none outside it
 pub apart : (p : ℕ → Bool) (k n : ℕ) → p k ≡ true → p n ≡ false → eqb k n ≡ false
@@ -43,24 +40,24 @@ letters [] = []
 letters (e ∷ es) = get_or e.letters 0 0 ∷ letters es
 
 module _ (p : ℕ → Bool) (k : ℕ) (h : p k ≡ true) where
-  no_letter : (es : List Spelled) → outside p (letters es) ≡ true → first_letter es k ≡ NoSign
+  no_letter : (es : List Spelled) → outside p (letters es) ≡ true → first_letter es k ≡ None
   unfolding first_letter pick
   no_letter [] o = refl
   no_letter (e ∷ es) o =
       by-test (p (get_or e.letters 0 0))
       (λ t. clash o (ap (λ b. pick b false (outside p (letters es))) t))
       (λ t.
-      ap (λ b. pick b (IsSign e.token) (first_letter es k)) (apart p k (get_or e.letters 0 0) h t)
+      ap (λ b. pick b (Some e.token) (first_letter es k)) (apart p k (get_or e.letters 0 0) h t)
       ∙ no_letter es (sym (ap (λ b. pick b false (outside p (letters es))) t) ∙ o))
 
-  no_pair : (es : List Spelled) (j : ℕ) → outside p (letters es) ≡ true → first_pair es k j ≡ NoSign
+  no_pair : (es : List Spelled) (j : ℕ) → outside p (letters es) ≡ true → first_pair es k j ≡ None
   unfolding first_pair is_pair pick
   no_pair [] j o = refl
   no_pair (e ∷ es) j o =
       by-test (p (get_or e.letters 0 0))
       (λ t. clash o (ap (λ b. pick b false (outside p (letters es))) t))
       (λ t.
-      ap (λ b. pick (pick b (eqb (get_or e.letters 1 0) j) false) (IsSign e.token) (first_pair es k j)) (apart' p k (get_or e.letters 0 0) h t)
+      ap (λ b. pick (pick b (eqb (get_or e.letters 1 0) j) false) (Some e.token) (first_pair es k j)) (apart' p k (get_or e.letters 0 0) h t)
       ∙ no_pair es j (sym (ap (λ b. pick b false (outside p (letters es))) t) ∙ o))
 
   not_among : (ns : List ℕ) → outside p ns ≡ true → among k ns ≡ false
@@ -72,11 +69,11 @@ module _ (p : ℕ → Bool) (k : ℕ) (h : p k ≡ true) where
       (λ t.
       ap (λ b. b || among k ns) (apart p k n h t) ∙ not_among ns (sym (ap (λ b. pick b false (outside p ns)) t) ∙ o))
 
-pub starts_no_sign : (k : ℕ) → can_start_identifier k ≡ true → get_one_char_simple_token k ≡ NoSign
+pub starts_no_sign : (k : ℕ) → can_start_identifier k ≡ true → get_one_char_simple_token k ≡ None
 unfolding get_one_char_simple_token can_start_identifier pick
 starts_no_sign k h = no_letter can_start_identifier k h one_letter refl
 
-pub starts_no_pair : (k j : ℕ) → can_start_identifier k ≡ true → get_two_char_simple_token k j ≡ NoSign
+pub starts_no_pair : (k j : ℕ) → can_start_identifier k ≡ true → get_two_char_simple_token k j ≡ None
 unfolding get_two_char_simple_token can_start_identifier pick
 starts_no_pair k j h = no_pair can_start_identifier k h two_letter j refl
 
@@ -84,11 +81,11 @@ pub starts_no_space : (k : ℕ) → can_start_identifier k ≡ true → is_white
 unfolding is_white_space can_start_identifier pick
 starts_no_space k h = not_among can_start_identifier k h white_space refl
 
-pub digit_no_sign : (k : ℕ) → is_digit k ≡ true → get_one_char_simple_token k ≡ NoSign
+pub digit_no_sign : (k : ℕ) → is_digit k ≡ true → get_one_char_simple_token k ≡ None
 unfolding get_one_char_simple_token digit_value pick
 digit_no_sign k h = no_letter is_digit k h one_letter refl
 
-pub digit_no_pair : (k j : ℕ) → is_digit k ≡ true → get_two_char_simple_token k j ≡ NoSign
+pub digit_no_pair : (k j : ℕ) → is_digit k ≡ true → get_two_char_simple_token k j ≡ None
 unfolding get_two_char_simple_token digit_value pick
 digit_no_pair k j h = no_pair is_digit k h two_letter j refl
 

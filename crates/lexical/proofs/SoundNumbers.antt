@@ -7,24 +7,21 @@ use mathlib.Core.List.{[], ◌∷◌, ◌++◌}
 use lib.Dec.{eqb}
 use lib.ListN.{length}
 use borrow.Author.Tests.{eqb-true}
+use Rattle.base.proofs.Options.{split_option}
 use Rattle.base.specs.Bytes.{Bytes}
 use Rattle.base.specs.Choice.{pick, pick_split, clash}
 use Rattle.base.specs.Turns.{Turn}
 use Rattle.cursor.specs.Class.{digit_value, to_digit}
 use Rattle.cursor.specs.Cursor.{next_char}
-use Rattle.cursor.specs.Elim.{on-Digit}
 use Rattle.cursor.specs.Number.{value, dotted, digit_added, takes_dot, digits, digits_turn, read_digits}
 use Rattle.cursor.specs.declared.Cursor.{Cursor}
-use Rattle.cursor.specs.declared.Digit.TheVariants.{NoDigit, IsDigit}
 use Rattle.cursor.specs.declared.Next.TheVariants.{Got}
 use Rattle.cursor.specs.declared.number.Digits.{Digits}
 use Rattle.cursor.specs.declared.number.Sum.{Sum}
-use Rattle.cursor.proofs.Reaching.{split-Next, split-Digit}
+use Rattle.cursor.proofs.Reaching.{split-Next}
 use Rattle.token_number.specs.Number.{is_bare_dot, finish_number, first_digit, read_unsigned, read_signed, read_number}
 use Rattle.token.specs.Read.{starts_number}
-use Rattle.token_kind.specs.Reason.{no_fraction, nothing_after_sign, no_number_after_sign, lexer_error}
-use Rattle.token_kind.specs.declared.Reading.{Reading}
-use Rattle.token_kind.specs.declared.Reading.TheVariants.{Failed, Ready}
+use Rattle.token_kind.specs.Reason.{Reading}
 use Rattle.token_kind.specs.declared.Token.{Token}
 use Rattle.token_kind.specs.declared.Token.TheVariants.{Number}
 use Rattle.lexical.specs.Lexical.{
@@ -48,8 +45,10 @@ use Rattle.lexical.specs.Lexical.{
 }
 use Rattle.lexical.specs.Lexed.{characters_at}
 use Rattle.lexical.proofs.Characters.{Walk, here, step, stops_done, stops_got}
-use Rattle.lexical.proofs.SoundWords.{Goes, turns_go, left, left_falls, got_as, got_same, Readied, Known, failed}
+use Rattle.lexical.proofs.SoundWords.{Goes, turns_go, left, left_falls, got_as, got_same, Readied, Known}
 use Rattle.lexical.proofs.SoundZoom.{bare, Valued, valued}
+use Rattle.std.specs.Prelude.{Some, None, Ok, Err}
+use Rattle.base.specs.Option.{on_option}
 
 -- what follows a digit or a dot of a number; the test says whether the dot was read
 data Digited : Bool → Chars → Chars → Type 0 where
@@ -115,7 +114,7 @@ summed_dot :
     → x.sum.dot ≡ false
     → Summed s (digits (dotted x.sum) d) r
     → Summed s x r
-unfolding added_all on-Digit to_digit digit_value pick
+unfolding added_all on_option to_digit digit_value pick
 summed_dot s x r d q e h =
     record {
       chars = 46 ∷ h.chars;
@@ -127,15 +126,15 @@ summed_dot s x r d q e h =
 summed_digit :
     (s : Bytes) (x r : Digits) (d : Cursor) (k v : ℕ)
     → next_char s x.end ≡ Got k d
-    → to_digit k 10 ≡ IsDigit v
+    → to_digit k 10 ≡ Some v
     → Summed s (digits (digit_added x.sum v) d) r
     → Summed s x r
-unfolding added_all on-Digit
+unfolding added_all on_option
 summed_digit s x r d k v q m h =
     record {
       chars = k ∷ h.chars;
       walk = step q h.walk;
-      adds = h.adds ∙ ap (λ y. added_all (on-Digit y (dotted x.sum) λ v. digit_added x.sum v) h.chars) (sym m);
+      adds = h.adds ∙ ap (λ y. added_all (on_option y (dotted x.sum) λ v. digit_added x.sum v) h.chars) (sym m);
       shape =
           digited_digit k (subst (Valued 10 k) m (valued 10 k)).0
           (subst (λ b. Digited b h.chars (characters_at s r.end.at)) (added_dot x.sum v) h.shape);
@@ -147,7 +146,7 @@ digits_turn_lem s x =
     split-Next P (next_char s x.end) _ _
     (λ d q. summed_none s x (stops_done s x.end d is_digit q) (λ e. stops_done s x.end d is_dot q))
     λ k d q.
-    split-Digit P (to_digit k 10) _ _
+    split_option P (to_digit k 10) _ _
     (λ m.
     pick_split P (takes_dot x.sum k) _ _
     (λ t.
@@ -165,11 +164,11 @@ summed s c x =
 
 -- digits and a dot, and nothing behind it
 bare_dot : {ks : Chars} (x : Sum) → Run is_digit true ks → x.dot ≡ false → x.places ≡ 0 → is_bare_dot (added_all x (ks ++ (46 ∷ []))) ≡ true
-unfolding is_bare_dot added_all on-Digit to_digit digit_value pick
+unfolding is_bare_dot added_all on_option to_digit digit_value pick
 bare_dot x none e p = ap (λ n. eqb n 0) p
 bare_dot x (one {k = k} {ks = ks} t r) e p =
     let y = digit_added x (digit_value k) in
-    ap (λ b. is_bare_dot (added_all (on-Digit (pick b (IsDigit (digit_value k)) NoDigit) (dotted x) λ v. digit_added x v) (ks ++ (46 ∷ [])))) t
+    ap (λ b. is_bare_dot (added_all (on_option (pick b (Some (digit_value k)) None) (dotted x) λ v. digit_added x v) (ks ++ (46 ∷ [])))) t
     ∙ bare_dot y r (added_dot x (digit_value k) ∙ e) (added_places x (digit_value k) e ∙ p)
 
 -- a number without a sign, that begins with a character at a cursor
@@ -180,12 +179,8 @@ record Unsigned (s : Bytes) (negative : Bool) (b : Cursor) (k : ℕ) (t : Token)
   pub is : t ≡ Number (number_of negative (k ∷ chars))
 
 abbrev UnsignedKnown : Bytes → Bool → Cursor → ℕ → Reading → Type 0
-UnsignedKnown s negative b k (Failed r l j) = Unit {0}
-UnsignedKnown s negative b k (Ready t d) = Unsigned s negative b k t d
-
-unsigned_failed : (s : Bytes) (negative : Bool) (b : Cursor) (k r : ℕ) (d : Cursor) → UnsignedKnown s negative b k (lexer_error r d)
-unfolding lexer_error
-unsigned_failed s negative b k r d = tt
+UnsignedKnown s negative b k (Err e) = Unit {0}
+UnsignedKnown s negative b k (Ok (t, d)) = Unsigned s negative b k t d
 
 digit_unsigned :
     {ks rest : Chars} (k : ℕ) (x : Sum)
@@ -214,7 +209,7 @@ unfolding finish_number
 finished s negative b c k x q e h =
     let r = read_digits s c x in
     let y = summed s c x in
-    pick_split (UnsignedKnown s negative b k) (is_bare_dot r.sum) _ _ (λ t. unsigned_failed s negative b k no_fraction r.end) λ t.
+    pick_split (UnsignedKnown s negative b k) (is_bare_dot r.sum) _ _ (λ t. tt) λ t.
     record {
       chars = y.chars;
       walk = step q y.walk;
@@ -226,28 +221,28 @@ reads_unsigned :
     (s : Bytes) (negative : Bool) (b c : Cursor) (k : ℕ)
     → next_char s b ≡ Got k c
     → UnsignedKnown s negative b k (read_unsigned s negative k c)
-unfolding read_unsigned on-Digit
+unfolding read_unsigned on_option
 reads_unsigned s negative b c k q =
     let P : Reading → Type 0 = UnsignedKnown s negative b k in
-    split-Digit P (to_digit k 10) _ _
+    split_option P (to_digit k 10) _ _
     (λ m.
     pick_split P (eqb k 46) _ _
     (λ t.
-    finished s negative b c k (first_digit 0 true) q (ap (λ y. on-Digit y (first_digit 0 true) λ v. first_digit v false) (sym m))
+    finished s negative b c k (first_digit 0 true) q (ap (λ y. on_option y (first_digit 0 true) λ v. first_digit v false) (sym m))
     (λ ks rest f g. subst (λ n. IsUnsigned (n ∷ ks) rest) (sym (eqb-true k 46 t)) (dot_unsigned f g)))
-    (λ t. unsigned_failed s negative b k no_number_after_sign c))
+    (λ t. tt))
     (λ v m.
-    finished s negative b c k (first_digit v false) q (ap (λ y. on-Digit y (first_digit 0 true) λ v. first_digit v false) (sym m))
+    finished s negative b c k (first_digit v false) q (ap (λ y. on_option y (first_digit 0 true) λ v. first_digit v false) (sym m))
     (λ ks rest f g. digit_unsigned k (first_digit v false) (subst (Valued 10 k) m (valued 10 k)).0 refl refl f g))
 
 -- with no sign, a plus, a minus
 number_none : (s : Bytes) (b : Cursor) (k : ℕ) (x : Reading) → UnsignedKnown s false b k x → Known s b x
-number_none s b k (Failed r l j) h = tt
-number_none s b k (Ready t d) h = subst (λ t. Readied s b t d) (sym h.is) (bare (number h.is_number) h.walk)
+number_none s b k (Err e) h = tt
+number_none s b k (Ok (t, d)) h = subst (λ t. Readied s b t d) (sym h.is) (bare (number h.is_number) h.walk)
 
 number_plus : (s : Bytes) (b c : Cursor) (k : ℕ) → next_char s b ≡ Got 43 c → (x : Reading) → UnsignedKnown s false c k x → Known s b x
-number_plus s b c k q (Failed r l j) h = tt
-number_plus s b c k q (Ready t d) h = subst (λ t. Readied s b t d) (sym h.is) (bare (plus h.is_number) (step q h.walk))
+number_plus s b c k q (Err e) h = tt
+number_plus s b c k q (Ok (t, d)) h = subst (λ t. Readied s b t d) (sym h.is) (bare (plus h.is_number) (step q h.walk))
 
 number_minus :
     (s : Bytes) (b c : Cursor) (k : ℕ)
@@ -255,8 +250,8 @@ number_minus :
     → is_digit k ≡ true
     → (x : Reading) → UnsignedKnown s true c k x
     → Known s b x
-number_minus s b c k q t (Failed r l j) h = tt
-number_minus s b c k q t (Ready u d) h = subst (λ t. Readied s b t d) (sym h.is) (bare (minus t h.is_number) (step q h.walk))
+number_minus s b c k q t (Err e) h = tt
+number_minus s b c k q t (Ok (u, d)) h = subst (λ t. Readied s b t d) (sym h.is) (bare (minus t h.is_number) (step q h.walk))
 
 pub reads_number : (s : Bytes) (b c : Cursor) (k : ℕ) → next_char s b ≡ Got k c → starts_number k ≡ true → Known s b (read_number s k c)
 unfolding read_number read_signed starts_number pick
@@ -264,7 +259,7 @@ reads_number s b c k q h =
     pick_split (Known s b) (eqb k 45) _ _ (λ t. clash h (ap starts_number (eqb-true k 45 t))) λ t.
     pick_split (Known s b) (eqb k 43) _ _
     (λ u.
-    split-Next (Known s b) (next_char s c) _ _ (λ d m. failed s b nothing_after_sign d) λ j d m.
+    split-Next (Known s b) (next_char s c) _ _ (λ d m. tt) λ j d m.
     number_plus s b c j (got_as 43 q u) (read_unsigned s false j d) (reads_unsigned s false c d j m))
     (λ u. number_none s b k (read_unsigned s false k c) (reads_unsigned s false b c k q))
 
@@ -276,5 +271,5 @@ pub reads_minus :
     → Known s b (read_number s 45 c)
 unfolding read_number read_signed pick
 reads_minus s b c d k q m t =
-    split-Next (Known s b) (next_char s c) _ _ (λ e n. failed s b nothing_after_sign e) λ j e n.
+    split-Next (Known s b) (next_char s c) _ _ (λ e n. tt) λ j e n.
     number_minus s b c j q (ap is_digit (got_same n m).0 ∙ t) (read_unsigned s true j e) (reads_unsigned s true c e j n)

@@ -7,6 +7,7 @@ use mathlib.Core.List.{[], ◌∷◌, ◌++◌}
 use lib.Dec.{eqb}
 use lib.ListN.{length}
 use borrow.Author.Tests.{eqb-true}
+use Rattle.base.proofs.Options.{split_result2}
 use Rattle.base.specs.Bytes.{Bytes, ascii, same, within}
 use Rattle.base.specs.Choice.{pick, pick_split, clash}
 use Rattle.base.specs.Turns.{Turn, more, done, after, turns}
@@ -34,14 +35,10 @@ use Rattle.token.specs.Read.{
   at_directive_end,
   read_at_directive,
 }
-use Rattle.token_kind.specs.Reason.{after_at, import_string, open_string, lexer_error}
-use Rattle.token.specs.declared.Quoted.{Quoted}
-use Rattle.token.specs.declared.Quoted.TheVariants.{Unclosed, Inside}
-use Rattle.token_kind.specs.declared.Reading.{Reading}
-use Rattle.token_kind.specs.declared.Reading.TheVariants.{Failed, Ready}
+use Rattle.token_kind.specs.Reason.{Reading, open_string, lexer_error}
+use Rattle.token_kind.specs.declared.LexerError.{LexerError}
 use Rattle.token_kind.specs.declared.Token.{Token}
 use Rattle.token_kind.specs.declared.Token.TheVariants.{Import, Identifier, Text, ColorRef}
-use Rattle.token_laws.proofs.Consuming.{split-Quoted}
 use Rattle.lexical.specs.Lexical.{
   Chars,
   begins,
@@ -64,6 +61,7 @@ use Rattle.lexical.specs.Lexical.{
 use Rattle.lexical.specs.Lexed.{characters_at}
 use Rattle.lexical.proofs.Characters.{characters_got, Walk, here, step, walk_one, walk_on, stops_done, stops_got}
 use Rattle.lexical.proofs.Letters.{word_bytes}
+use Rattle.std.specs.Prelude.{Result, Ok, Err}
 
 -- ---- loops, from their last turn back to the first
 
@@ -159,12 +157,8 @@ pub record Readied (s : Bytes) (b : Cursor) (t : Token) (d : Cursor) : Type 0 wh
   pub is : t ≡ word (range from.at end.at)
 
 abbrev pub Known : Bytes → Cursor → Reading → Type 0
-Known s b (Failed r l k) = Unit {0}
-Known s b (Ready t d) = Readied s b t d
-
-pub failed : (s : Bytes) (b : Cursor) (r : ℕ) (d : Cursor) → Known s b (lexer_error r d)
-unfolding lexer_error
-failed s b r d = tt
+Known s b (Err e) = Unit {0}
+Known s b (Ok (t, d)) = Readied s b t d
 
 -- ---- identifiers
 
@@ -238,23 +232,23 @@ pub record Quotation (s : Bytes) (c : Cursor) (from : ℕ) (r : Range) (d : Curs
   pub closed : next_char s quote ≡ Got 34 d
   pub is : r ≡ range from quote.at
 
-abbrev pub Quotes : Bytes → ℕ → Cursor → Quoted → Type 0
-Quotes s from c (Unclosed d) = Unit {0}
-Quotes s from c (Inside r d) = Quotation s c from r d
+abbrev pub Quotes : Bytes → ℕ → Cursor → Result (Range × Cursor) LexerError → Type 0
+Quotes s from c (Err d) = Unit {0}
+Quotes s from c (Ok (r, d)) = Quotation s c from r d
 
 quoted_before :
     (s : Bytes) (from : ℕ) (c d : Cursor) (k : ℕ)
     → next_char s c ≡ Got k d
     → is_quote k ≡ false
-    → (x : Quoted) → Quotes s from d x
+    → (x : Result (Range × Cursor) LexerError) → Quotes s from d x
     → Quotes s from c x
-quoted_before s from c d k q t (Unclosed e) h = tt
-quoted_before s from c d k q t (Inside r e) h =
+quoted_before s from c d k q t (Err e) h = tt
+quoted_before s from c d k q t (Ok (r, e)) h =
     record { chars = k ∷ h.chars; quote = h.quote; walk = step q h.walk; run = one t h.run; closed = h.closed; is = h.is }
 
 quoted_turn_lem : (s : Bytes) (from : ℕ) (c : Cursor) → Goes (Quotes s from) (left s) c (quoted_turn s from c)
 quoted_turn_lem s from c =
-    let P : Turn Cursor Quoted → Type 0 = Goes (Quotes s from) (left s) c in
+    let P : Turn Cursor (Result (Range × Cursor) LexerError) → Type 0 = Goes (Quotes s from) (left s) c in
     split-Next P (next_char s c) _ _ (λ d q. tt) λ k d q.
     pick_split P (eqb k 34) _ _
     (λ t. record { chars = []; quote = c; walk = here; run = none; closed = got_as 34 q t; is = refl })
@@ -262,12 +256,12 @@ quoted_turn_lem s from c =
 
 pub quoted : (s : Bytes) (c : Cursor) → Quotes s c.at c (read_quoted s c)
 unfolding read_quoted
-quoted s c = turns_go (Quotes s c.at) (left s) (quoted_turn s c.at) (Unclosed c) (quoted_turn_lem s c.at) (suc (length s)) c (omega arith)
+quoted s c = turns_go (Quotes s c.at) (left s) (quoted_turn s c.at) (Err (lexer_error open_string c)) (quoted_turn_lem s c.at) (suc (length s)) c (omega arith)
 
 pub reads_string : (s : Bytes) (b c : Cursor) → next_char s b ≡ Got 34 c → Known s b (read_string s c)
 unfolding read_string
 reads_string s b c q =
-    split-Quoted (Known s b) (read_quoted s c) _ _ (λ d m. failed s b _ d) λ r d m.
+    split_result2 (Known s b) (read_quoted s c) _ _ (λ d m. tt) λ r d m.
     let x = subst (Quotes s c.at c) m (quoted s c) in
     record {
       before = 34 ∷ [];
@@ -325,10 +319,10 @@ unfolding read_import
 reads_import s b e o =
     let g = gapped s 40 e in
     let f = skip_one s 40 e in
-    split-Next (Known s b) (next_char s f) _ _ (λ d q. failed s b import_string d) λ k d q.
+    split-Next (Known s b) (next_char s f) _ _ (λ d q. tt) λ k d q.
     pick_split (Known s b) (eqb k 34) _ _
     (λ t.
-    split-Quoted (Known s b) (read_quoted s d) _ _ (λ h m. failed s b open_string h) λ r h m.
+    split_result2 (Known s b) (read_quoted s d) _ _ (λ h m. tt) λ r h m.
     let x = subst (Quotes s d.at d) m (quoted s d) in
     let a = gapped s 41 h in
     record {
@@ -344,7 +338,7 @@ reads_import s b e o =
       closed = step x.closed a.walk;
       is = ap (λ r. Import r) x.is;
     })
-    (λ t. failed s b import_string d)
+    (λ t. tt)
 
 reads_directive :
     (s : Bytes) (b c e : Cursor) (k : ℕ) (ks : Chars)
@@ -378,9 +372,9 @@ reads_directive s b c e k ks q w r n =
 pub reads_at : (s : Bytes) (b c : Cursor) → next_char s b ≡ Got 64 c → Known s b (read_at_directive s c)
 unfolding read_at_directive
 reads_at s b c q =
-    split-Next (Known s b) (next_char s c) _ _ (λ d m. failed s b after_at d) λ k d m.
+    split-Next (Known s b) (next_char s c) _ _ (λ d m. tt) λ k d m.
     pick_split (Known s b) (can_be_in_at_directive k) _ _
     (λ t.
     let r = directive_run s d in
     reads_directive s b c (at_directive_end s d) k r.chars q (step m r.walk) (one t r.run) r.stops)
-    (λ t. failed s b after_at d)
+    (λ t. tt)

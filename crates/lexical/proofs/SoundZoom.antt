@@ -1,5 +1,5 @@
 -- The readers of zoom ranges and colours: each token that is read is one by the lexical grammar.
-use Prim.Native.Nat.{ℕ, suc, ◌+◌, ◌*◌, ◌/◌, ◌%◌, ◌<◌, ◌≤◌}
+use Prim.Native.Nat.{ℕ, suc, ◌+◌, ◌*◌, ◌<◌, ◌≤◌}
 use native.Mathlib.Omega.{arith}
 use mathlib.Core.Path.{◌≡◌, refl, sym, ◌∙◌, ap, subst}
 use mathlib.Core.Bool.{Bool, true, false}
@@ -7,19 +7,15 @@ use mathlib.Core.List.{[], ◌∷◌, ◌++◌}
 use lib.Dec.{eqb, ltb}
 use lib.ListN.{length}
 use borrow.Author.Tests.{eqb-true, ltb-true}
+use Rattle.base.proofs.Options.{split_option}
 use Rattle.base.specs.Bytes.{Bytes}
 use Rattle.base.specs.Choice.{pick, pick_split, clash}
 use Rattle.color.specs.Named.{rgb}
 use Rattle.cursor.specs.Class.{digit_value, to_digit}
 use Rattle.cursor.specs.Cursor.{most, bump, next_char}
 use Rattle.cursor.specs.declared.Cursor.{Cursor}
-use Rattle.cursor.specs.declared.Digit.{Digit}
-use Rattle.cursor.specs.declared.Digit.TheVariants.{NoDigit, IsDigit}
 use Rattle.cursor.specs.declared.Next.TheVariants.{Got}
-use Rattle.cursor.proofs.Reaching.{split-Next, split-Digit}
-use Rattle.token_kind.specs.Elim.{on-ZoomLevel}
-use Rattle.token_zoom.specs.Elim.{on-DigitRead}
-use Rattle.token_kind.specs.Reason.{bad_color, empty_zoom_range}
+use Rattle.cursor.proofs.Reaching.{split-Next}
 use Rattle.token_zoom.specs.Zoom.{
   read_digit,
   hex,
@@ -31,22 +27,14 @@ use Rattle.token_zoom.specs.Zoom.{
   read_color,
   read_zoom_level,
   read_hyphen,
-  is_no_level,
   ranged,
   zoom_range,
   read_levels,
   read_zoom_range,
 }
-use Rattle.token_zoom.specs.declared.DigitRead.{DigitRead}
-use Rattle.token_zoom.specs.declared.DigitRead.TheVariants.{NoneRead, OneRead}
-use Rattle.token_kind.specs.declared.Reading.TheVariants.{Ready}
 use Rattle.token_kind.specs.declared.Token.{Token}
 use Rattle.token_kind.specs.declared.Token.TheVariants.{Color, ZoomRange}
-use Rattle.token_kind.specs.declared.ZoomLevel.{ZoomLevel}
-use Rattle.token_kind.specs.declared.ZoomLevel.TheVariants.{NoLevel, Level}
 use Rattle.token_zoom.specs.declared.Hex.{Hex}
-use Rattle.token_zoom.specs.declared.Hyphen.{Hyphen}
-use Rattle.token_zoom.specs.declared.LevelRead.{LevelRead}
 use Rattle.token_laws.proofs.Colors.{six_digits_lem, three_digits_lem as doubled-digits}
 use Rattle.lexical.specs.Lexical.{
   Chars,
@@ -82,7 +70,9 @@ use Rattle.lexical.proofs.Characters.{
   stops_done,
   stops_got,
 }
-use Rattle.lexical.proofs.SoundWords.{Goes, turns_go, left, left_falls, got_as, Readied, Known, failed}
+use Rattle.lexical.proofs.SoundWords.{Goes, turns_go, left, left_falls, got_as, Readied, Known}
+use Rattle.std.specs.Prelude.{Option, Some, None, Ok}
+use Rattle.base.specs.Option.{on_option, on_option2}
 
 -- a token of characters alone
 pub bare :
@@ -98,9 +88,9 @@ bare {d = d} {ks = ks} {t = t} i w =
 abbrev pub below : ℕ → ℕ → Bool
 below radix k = ltb (digit_value k) radix
 
-abbrev pub Valued : ℕ → ℕ → Digit → Type 0
-Valued radix k NoDigit = below radix k ≡ false
-Valued radix k (IsDigit v) = (below radix k ≡ true) × (v ≡ digit_value k)
+abbrev pub Valued : ℕ → ℕ → Option ℕ → Type 0
+Valued radix k None = below radix k ≡ false
+Valued radix k (Some v) = (below radix k ≡ true) × (v ≡ digit_value k)
 
 pub valued : (radix k : ℕ) → Valued radix k (to_digit k radix)
 unfolding to_digit
@@ -112,16 +102,16 @@ record DigitAt (s : Bytes) (radix : ℕ) (c : Cursor) (v : ℕ) (d : Cursor) : T
   pub fits : below radix ch ≡ true
   pub is : v ≡ digit_value ch
 
-abbrev DigitKnown : Bytes → ℕ → Cursor → DigitRead → Type 0
-DigitKnown s radix c NoneRead = begins (below radix) (characters_at s c.at) ≡ false
-DigitKnown s radix c (OneRead v d) = DigitAt s radix c v d
+abbrev DigitKnown : Bytes → ℕ → Cursor → Option (ℕ × Cursor) → Type 0
+DigitKnown s radix c None = begins (below radix) (characters_at s c.at) ≡ false
+DigitKnown s radix c (Some (v, d)) = DigitAt s radix c v d
 
 reads_digit : (s : Bytes) (radix : ℕ) (c : Cursor) → DigitKnown s radix c (read_digit s radix c)
 unfolding read_digit
 reads_digit s radix c =
-    let P : DigitRead → Type 0 = DigitKnown s radix c in
+    let P : Option (ℕ × Cursor) → Type 0 = DigitKnown s radix c in
     split-Next P (next_char s c) _ _ (λ d q. stops_done s c d (below radix) q) λ k d q.
-    split-Digit P (to_digit k radix) _ _
+    split_option P (to_digit k radix) _ _
     (λ m. stops_got s c d (below radix) q (subst (Valued radix k) m (valued radix k)))
     λ v m.
     let h = subst (Valued radix k) m (valued radix k) in
@@ -131,13 +121,13 @@ module _ {B : Type 0} (P : B → Type 0) (s : Bytes) (radix : ℕ) (c : Cursor) 
   split_digit :
       (begins (below radix) (characters_at s c.at) ≡ false → P a)
       → ((v : ℕ) (d : Cursor) → DigitAt s radix c v d → P (g v d))
-      → P (on-DigitRead (read_digit s radix c) a g)
-  unfolding on-DigitRead
+      → P (on_option2 (read_digit s radix c) a g)
+  unfolding on_option
   split_digit p q = go (read_digit s radix c) (reads_digit s radix c)
     where
-      go : (x : DigitRead) → DigitKnown s radix c x → P (on-DigitRead x a g)
-      go NoneRead h = p h
-      go (OneRead v d) h = q v d h
+      go : (x : Option (ℕ × Cursor)) → DigitKnown s radix c x → P (on_option2 x a g)
+      go None h = p h
+      go (Some (v, d)) h = q v d h
 
 -- ---- zoom ranges
 
@@ -146,14 +136,14 @@ record LevelAt (s : Bytes) (c : Cursor) (m : ℕ) (d : Cursor) : Type 0 where
   pub walk : Walk s c chars d
   pub is : IsLevel chars (characters_at s d.at) m
 
-abbrev Leveled : Bytes → Cursor → ZoomLevel → Cursor → Type 0
-Leveled s c NoLevel d = (d ≡ c) × (begins is_digit (characters_at s c.at) ≡ false)
-Leveled s c (Level m) d = LevelAt s c m d
+abbrev Leveled : Bytes → Cursor → Option ℕ → Cursor → Type 0
+Leveled s c None d = (d ≡ c) × (begins is_digit (characters_at s c.at) ≡ false)
+Leveled s c (Some m) d = LevelAt s c m d
 
-reads_level : (s : Bytes) (c : Cursor) → Leveled s c (read_zoom_level s c).level (read_zoom_level s c).end
+reads_level : (s : Bytes) (c : Cursor) → Leveled s c (read_zoom_level s c).0 (read_zoom_level s c).1
 unfolding read_zoom_level
 reads_level s c =
-    let P : LevelRead → Type 0 = λ x. Leveled s c x.level x.end in
+    let P : Option ℕ × Cursor → Type 0 = λ x. Leveled s c x.0 x.1 in
     split_digit P s 10 c _ _ (λ n. (refl, n)) λ a d x.
     split_digit P s 10 d _ _
     (λ n.
@@ -176,10 +166,10 @@ abbrev Hyphened : Bytes → Cursor → Bool → Cursor → Type 0
 Hyphened s c true d = next_char s c ≡ Got 45 d
 Hyphened s c false d = (d ≡ c) × (begins is_hyphen (characters_at s c.at) ≡ false)
 
-reads_hyphen : (s : Bytes) (c : Cursor) → Hyphened s c (read_hyphen s c).had (read_hyphen s c).end
+reads_hyphen : (s : Bytes) (c : Cursor) → Hyphened s c (read_hyphen s c).0 (read_hyphen s c).1
 unfolding read_hyphen
 reads_hyphen s c =
-    let P : Hyphen → Type 0 = λ x. Hyphened s c x.had x.end in
+    let P : Bool × Cursor → Type 0 = λ x. Hyphened s c x.0 x.1 in
     split-Next P (next_char s c) _ _ (λ d q. (refl, stops_done s c d is_hyphen q)) λ k d q.
     pick_split P (eqb k 45) _ _ (λ t. got_as 45 q t) (λ t. (refl, stops_got s c d is_hyphen q t))
 
@@ -192,30 +182,30 @@ level_digit x = ap (begins is_digit) (walk_characters x.walk) ∙ level_begins x
 
 module _ (s : Bytes) (b c : Cursor) (o : Walk s b (124 ∷ 122 ∷ []) c) where
   reads_zooms :
-      (min : ZoomLevel) (had : Bool) (max : ZoomLevel) (x y z : Cursor)
+      (min : Option ℕ) (had : Bool) (max : Option ℕ) (x y z : Cursor)
       → Leveled s c min x
       → Hyphened s x had y
       → Leveled s y max z
       → Known s b (zoom_range min had max z)
-  unfolding zoom_range is_no_level ranged pick on-ZoomLevel
-  reads_zooms NoLevel true NoLevel x y z l h m = failed s b empty_zoom_range z
-  reads_zooms NoLevel false NoLevel x y z l h m = failed s b empty_zoom_range z
-  reads_zooms NoLevel true (Level n) x y z l h m =
+  unfolding zoom_range ranged pick
+  reads_zooms None true None x y z l h m = tt
+  reads_zooms None false None x y z l h m = tt
+  reads_zooms None true (Some n) x y z l h m =
       bare (zooms (up_to m.is)) (walk_on o (step (subst (λ (e : Cursor). next_char s e ≡ Got 45 y) l.0 h) m.walk))
-  reads_zooms NoLevel false (Level n) x y z l h m =
+  reads_zooms None false (Some n) x y z l h m =
       clash (subst (λ (e : Cursor). begins is_digit (characters_at s e.at) ≡ true) (h.0 ∙ l.0) (level_digit m)) l.1
-  reads_zooms (Level k) true NoLevel x y z l h m =
+  reads_zooms (Some k) true None x y z l h m =
       let i : IsLevel l.chars (45 ∷ characters_at s y.at) k = subst (λ rest. IsLevel l.chars rest k) (characters_got s x y h) l.is in
-      subst (λ e. Known s b (Ready (ZoomRange (Level k) NoLevel) e)) (sym m.0)
+      subst (λ e. Known s b (Ok (ZoomRange (Some k) None, e))) (sym m.0)
       (bare (zooms (up_from i m.1)) (walk_on o (walk_on l.walk (walk_one h))))
-  reads_zooms (Level k) true (Level n) x y z l h m =
+  reads_zooms (Some k) true (Some n) x y z l h m =
       let i = subst (λ rest. IsLevel l.chars rest k) (characters_got s x y h ∙ ap (λ ks. 45 ∷ ks) (walk_characters m.walk)) l.is in
       bare (zooms (between i m.is)) (walk_on o (walk_on l.walk (step h m.walk)))
-  reads_zooms (Level k) false NoLevel x y z l h m =
+  reads_zooms (Some k) false None x y z l h m =
       let n = subst (λ (e : Cursor). begins is_digit (characters_at s e.at) ≡ false) h.0 m.1 in
-      subst (λ e. Known s b (Ready (ZoomRange (Level k) (Level k)) e)) (sym (m.0 ∙ h.0))
+      subst (λ e. Known s b (Ok (ZoomRange (Some k) (Some k), e))) (sym (m.0 ∙ h.0))
       (bare (zooms (exactly l.is n h.1)) (walk_on o l.walk))
-  reads_zooms (Level k) false (Level n) x y z l h m =
+  reads_zooms (Some k) false (Some n) x y z l h m =
       let w = subst (λ e. Walk s e m.chars z) h.0 m.walk in
       let i = subst (λ rest. IsLevel l.chars rest k) (walk_characters w) l.is in
       bare (zooms (unsaid i m.is)) (walk_on o (walk_on l.walk w))
@@ -223,15 +213,15 @@ module _ (s : Bytes) (b c : Cursor) (o : Walk s b (124 ∷ 122 ∷ []) c) where
 pub reads_zoom : (s : Bytes) (b c : Cursor) → next_char s b ≡ Got 124 c → Known s b (read_zoom_range s c)
 unfolding read_zoom_range read_levels
 reads_zoom s b c q =
-    split-Next (Known s b) (next_char s c) _ _ (λ d m. failed s b _ d) λ k d m.
+    split-Next (Known s b) (next_char s c) _ _ (λ d m. tt) λ k d m.
     pick_split (Known s b) (eqb k 122) _ _
     (λ t.
     let min = read_zoom_level s d in
-    let h = read_hyphen s min.end in
-    let max = read_zoom_level s h.end in
-    reads_zooms s b d (step q (walk_one (got_as 122 m t))) min.level h.had max.level min.end h.end max.end
-    (reads_level s d) (reads_hyphen s min.end) (reads_level s h.end))
-    (λ t. failed s b _ d)
+    let h = read_hyphen s min.1 in
+    let max = read_zoom_level s h.1 in
+    reads_zooms s b d (step q (walk_one (got_as 122 m t))) min.0 h.0 max.0 min.1 h.1 max.1
+    (reads_level s d) (reads_hyphen s min.1) (reads_level s h.1))
+    (λ t. tt)
 
 -- ---- colours
 
@@ -354,4 +344,4 @@ reads_color s b c q =
     pick_split (Known s b) (eqb h.count 3) _ _
     (λ u.
     three_color s b c h.end q x.stops h.value x.chars x.walk x.run (sym (eqb-true h.count 3 u) ∙ x.counts) x.packs)
-    (λ u. failed s b bad_color h.end)
+    (λ u. tt)

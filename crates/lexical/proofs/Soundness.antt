@@ -7,6 +7,7 @@ use mathlib.Core.Logic.{◌⊎◌, inl, inr}
 use mathlib.Core.List.{[], ◌∷◌, ◌++◌, append-nil, append_assoc}
 use lib.Dec.{eqb}
 use lib.ListN.{length}
+use Rattle.base.proofs.Options.{split_option, split_option2, split_result2}
 use Rattle.base.specs.Bytes.{Bytes}
 use Rattle.base.specs.Choice.{pick_split}
 use Rattle.base.specs.Turns.{Turn}
@@ -21,19 +22,13 @@ use Rattle.cursor.specs.declared.Next.TheVariants.{Done, Got}
 use Rattle.cursor.specs.declared.Significant.{Significant}
 use Rattle.cursor.specs.declared.Significant.TheVariants.{Broken, Ended, Found}
 use Rattle.cursor.proofs.Reaching.{split-Next, split-Comment, split-Significant, end_stays, skipped_on}
-use Rattle.token_kind.specs.Elim.{on-Sign}
 use Rattle.token.specs.Read.{range, read_after_minus, read_other, starts_number, read_long, read_single, read_pair, read_token}
-use Rattle.token_kind.specs.Reason.{after_minus, symbol}
 use Rattle.token_kind.specs.Signs.{get_two_char_simple_token, get_one_char_simple_token}
 use Rattle.token.specs.Step.{step_of}
-use Rattle.token.specs.declared.PairRead.{PairRead}
-use Rattle.token.specs.declared.PairRead.TheVariants.{NoPair, Pair}
-use Rattle.token_kind.specs.declared.Reading.TheVariants.{Ready}
 use Rattle.token.specs.declared.Step.{Step}
 use Rattle.token.specs.declared.Step.TheVariants.{Wrong, End, Took}
 use Rattle.token_kind.specs.declared.Token.{Token}
 use Rattle.token_kind.specs.declared.Token.TheVariants.{Identifier}
-use Rattle.token_laws.proofs.Consuming.{split-Sign, split-PairRead, split-Reading}
 use Rattle.lexical.specs.Lexical.{
   Chars,
   is_newline,
@@ -80,7 +75,6 @@ use Rattle.lexical.proofs.SoundWords.{
   got_not_done,
   Readied,
   Known,
-  failed,
   reads_identifier,
   reads_hyphen_name,
   reads_string,
@@ -88,6 +82,8 @@ use Rattle.lexical.proofs.SoundWords.{
 }
 use Rattle.lexical.proofs.SoundZoom.{bare, reads_zoom, reads_color}
 use Rattle.lexical.proofs.SoundNumbers.{reads_number, reads_minus}
+use Rattle.std.specs.Prelude.{Option, Some, None, Ok}
+use Rattle.base.specs.Option.{on_option}
 
 -- ---- what is read, place by place
 
@@ -317,20 +313,20 @@ blanks_skipped s c = turns_go (Blanks s) (left s) (significant_turn s) (Ended c)
 reads_after_minus : (s : Bytes) (b c : Cursor) → next_char s b ≡ Got 45 c → Known s b (read_after_minus s b.at c)
 unfolding read_after_minus
 reads_after_minus s b c q =
-    split-Next (Known s b) (next_char s c) _ _ (λ d m. failed s b after_minus c) λ k d m.
+    split-Next (Known s b) (next_char s c) _ _ (λ d m. tt) λ k d m.
     pick_split (Known s b) (in_span 48 57 k) _ _ (λ t. reads_minus s b c d k q m (sym (digit_span k) ∙ t)) λ t.
     pick_split (Known s b) (can_continue_identifier k) _ _
     (λ u. reads_hyphen_name s b c d k q m u (sym (digit_span k) ∙ t))
-    (λ u. failed s b after_minus c)
+    (λ u. tt)
 
 reads_other : (s : Bytes) (b c : Cursor) (k : ℕ) → next_char s b ≡ Got k c → Known s b (read_other s b.at k c)
 unfolding read_other
 reads_other s b c k q =
     pick_split (Known s b) (eqb k 45) _ _ (λ t. reads_after_minus s b c (got_as 45 q t)) λ t.
     pick_split (Known s b) (eqb k 124) _ _ (λ u. reads_zoom s b c (got_as 124 q u)) λ u.
-    pick_split (Known s b) (eqb k 35) _ _ (λ v. reads_color s b c (got_as 35 q v)) (λ v. failed s b symbol c)
+    pick_split (Known s b) (eqb k 35) _ _ (λ v. reads_color s b c (got_as 35 q v)) (λ v. tt)
 
-reads_star : (s : Bytes) (b c : Cursor) → next_char s b ≡ Got 42 c → Known s b (Ready (Identifier (range b.at c.at)) c)
+reads_star : (s : Bytes) (b c : Cursor) → next_char s b ≡ Got 42 c → Known s b (Ok (Identifier (range b.at c.at), c))
 reads_star s b c q =
     record {
       before = [];
@@ -362,25 +358,25 @@ reads_single :
     → Known s b (read_single s b.at k c)
 unfolding read_single
 reads_single s b c k q n =
-    split-Sign (Known s b) (get_one_char_simple_token k) _ _ (λ m. reads_long s b c k q) λ t m. bare (sign m n) (walk_one q)
+    split_option (Known s b) (get_one_char_simple_token k) _ _ (λ m. reads_long s b c k q) λ t m. bare (sign m n) (walk_one q)
 
-abbrev Paired : Bytes → Cursor → ℕ → Cursor → PairRead → Type 0
-Paired s b k c NoPair = begins (pairs_with k) (characters_at s c.at) ≡ false
-Paired s b k c (Pair t d) = Readied s b t d
+abbrev Paired : Bytes → Cursor → ℕ → Cursor → Option (Token × Cursor) → Type 0
+Paired s b k c None = begins (pairs_with k) (characters_at s c.at) ≡ false
+Paired s b k c (Some (t, d)) = Readied s b t d
 
 reads_pair : (s : Bytes) (b c : Cursor) (k : ℕ) → next_char s b ≡ Got k c → Paired s b k c (read_pair s k c)
-unfolding read_pair on-Sign
+unfolding read_pair on_option
 reads_pair s b c k q =
-    let P : PairRead → Type 0 = Paired s b k c in
+    let P : Option (Token × Cursor) → Type 0 = Paired s b k c in
     split-Next P (next_char s c) _ _ (λ d m. stops_done s c d (pairs_with k) m) λ j d m.
-    split-Sign P (get_two_char_simple_token k j) _ _
-    (λ n. stops_got s c d (pairs_with k) m (ap (λ x. on-Sign x false λ t. true) n))
+    split_option P (get_two_char_simple_token k j) _ _
+    (λ n. stops_got s c d (pairs_with k) m (ap (λ x. on_option x false λ t. true) n))
     (λ t n. bare (pair n) (step q (walk_one m)))
 
 reads_token : (s : Bytes) (b c : Cursor) (k : ℕ) → next_char s b ≡ Got k c → Known s b (read_token s b.at k c)
 unfolding read_token
 reads_token s b c k q =
-    split-PairRead (Known s b) (read_pair s k c) _ _
+    split_option2 (Known s b) (read_pair s k c) _ _
     (λ m. reads_single s b c k q (subst (Paired s b k c) m (reads_pair s b c k q)))
     (λ t d m. subst (Paired s b k c) m (reads_pair s b c k q))
 
@@ -427,7 +423,7 @@ steps s c =
     λ at k d q.
     let b = subst (Blanks s c) q (blanks_skipped s c) in
     let w = subst (λ n. Known s b.place (read_token s n k d)) (sym b.is) (reads_token s b.place d k b.char) in
-    split-Reading (Steps s c) (read_token s at k d) _ _ (λ r l n m. tt) λ t e m.
+    split_result2 (Steps s c) (read_token s at k d) _ _ (λ e m. tt) λ t e m.
     lexed s c d e at k t b (subst (Known s b.place) m w)
 
 pub sound : Sound

@@ -1,5 +1,5 @@
 -- The tokens that stand in the bytes of a text by the lexical grammar, and what a step of the tokenizer has to do with them.
-use Rattle.std.specs.Prelude.{ℕ, zero, suc, ◌+◌, ◌≡◌, List, [], ◌∷◌, ◌++◌, length}
+use Rattle.std.specs.Prelude.{ℕ, zero, suc, ◌+◌, ◌≡◌, [], ◌∷◌, ◌++◌, length}
 use Rattle.base.specs.Bytes.{Bytes}
 use Rattle.base.specs.declared.Range.{Range}
 use Rattle.utf8.specs.Elim.{on-Char}

@@ -1,23 +1,19 @@
 -- The lexical grammar: which characters are which token. A relation names the characters that follow where a token takes as many
 -- as it can.
-use Rattle.std.specs.Prelude.{ℕ, ◌+◌, ◌*◌, ◌≡◌, Bool, true, false, List, [], ◌∷◌, ◌++◌, eqb, ltb, Float}
+use Rattle.std.specs.Prelude.{ℕ, ◌+◌, ◌*◌, ◌≡◌, Bool, true, false, List, [], ◌∷◌, ◌++◌, eqb, ltb, Float, Option, Some, None}
 use Rattle.base.specs.Bytes.{ascii, same}
 use Rattle.base.specs.Choice.{pick}
 use Rattle.base.specs.declared.Range.{Range}
 use Rattle.space.specs.Space.{is_white_space}
 use Rattle.color.specs.Named.{rgb}
 use Rattle.cursor.specs.Class.{can_be_in_at_directive, can_start_identifier, can_continue_identifier, digit_value, to_digit}
-use Rattle.cursor.specs.Elim.{on-Digit}
 use Rattle.cursor.specs.Number.{dotted, digit_added, value}
 use Rattle.cursor.specs.declared.number.Sum.{Sum}
-use Rattle.token_kind.specs.Elim.{on-Sign}
 use Rattle.token_number.specs.Number.{first_digit}
 use Rattle.token_kind.specs.Signs.{get_two_char_simple_token, get_one_char_simple_token}
-use Rattle.token_kind.specs.declared.Sign.TheVariants.{IsSign}
 use Rattle.token_kind.specs.declared.Token.{Token}
 use Rattle.token_kind.specs.declared.Token.TheVariants.{Import, Identifier, Text, Number, ZoomRange, ColorRef, Color}
-use Rattle.token_kind.specs.declared.ZoomLevel.{ZoomLevel}
-use Rattle.token_kind.specs.declared.ZoomLevel.TheVariants.{NoLevel, Level}
+use Rattle.base.specs.Option.{on_option}
 
 abbrev pub Chars : Type 0
 Chars = List ℕ
@@ -48,7 +44,7 @@ is_gap bracket k = pick (is_white_space k) true (eqb k bracket)
 
 -- whether a character makes a sign of two letters with the one before it
 abbrev pub pairs_with : ℕ → ℕ → Bool
-pairs_with a k = on-Sign (get_two_char_simple_token a k) false λ t. true
+pairs_with a k = on_option (get_two_char_simple_token a k) false λ t. true
 
 -- whether characters begin with one of a class
 abbrev pub begins : (ℕ → Bool) → Chars → Bool
@@ -100,10 +96,10 @@ pub data IsUnsigned : Chars → Chars → Type 0 where
 
 -- the digits and the dot of a number, one after another
 abbrev pub begun : ℕ → Sum
-begun k = on-Digit (to_digit k 10) (first_digit 0 true) λ v. first_digit v false
+begun k = on_option (to_digit k 10) (first_digit 0 true) λ v. first_digit v false
 
 abbrev pub added : Sum → ℕ → Sum
-added x k = on-Digit (to_digit k 10) (dotted x) λ v. digit_added x v
+added x k = on_option (to_digit k 10) (dotted x) λ v. digit_added x v
 
 unfoldable pub added_all : Sum → Chars → Sum
 added_all x [] = x
@@ -125,25 +121,25 @@ pub data IsLevel : Chars → Chars → ℕ → Type 0 where
       → IsLevel (a ∷ b ∷ []) rest (10 * digit_value a + digit_value b)
 
 -- zooms = level | level level | level "-" | "-" level | level "-" level      (without a hyphen a second level says nothing)
-pub data IsZooms : Chars → Chars → ZoomLevel → ZoomLevel → Type 0 where
+pub data IsZooms : Chars → Chars → Option ℕ → Option ℕ → Type 0 where
   exactly :
       {a rest : Chars} {m : ℕ}
       → IsLevel a rest m
       → begins is_digit rest ≡ false
       → begins is_hyphen rest ≡ false
-      → IsZooms a rest (Level m) (Level m)
-  unsaid : {a b rest : Chars} {m n : ℕ} → IsLevel a (b ++ rest) m → IsLevel b rest n → IsZooms (a ++ b) rest (Level m) (Level m)
+      → IsZooms a rest (Some m) (Some m)
+  unsaid : {a b rest : Chars} {m n : ℕ} → IsLevel a (b ++ rest) m → IsLevel b rest n → IsZooms (a ++ b) rest (Some m) (Some m)
   up_from :
       {a rest : Chars} {m : ℕ}
       → IsLevel a (45 ∷ rest) m
       → begins is_digit rest ≡ false
-      → IsZooms (a ++ (45 ∷ [])) rest (Level m) NoLevel
-  up_to : {b rest : Chars} {n : ℕ} → IsLevel b rest n → IsZooms (45 ∷ b) rest NoLevel (Level n)
+      → IsZooms (a ++ (45 ∷ [])) rest (Some m) None
+  up_to : {b rest : Chars} {n : ℕ} → IsLevel b rest n → IsZooms (45 ∷ b) rest None (Some n)
   between :
       {a b rest : Chars} {m n : ℕ}
       → IsLevel a (45 ∷ b ++ rest) m
       → IsLevel b rest n
-      → IsZooms (a ++ (45 ∷ b)) rest (Level m) (Level n)
+      → IsZooms (a ++ (45 ∷ b)) rest (Some m) (Some n)
 
 -- ---- tokens
 
@@ -156,11 +152,11 @@ pub data IsGap (bracket : ℕ) : Chars → Chars → Type 0 where
 -- word is the token once the place of the name is known.
 pub data IsToken : Chars → Chars → Chars → Chars → (Range → Token) → Type 0 where
   -- the table of signs of two letters, token_kind/specs/Signs.antt
-  pair : {a b : ℕ} {rest : Chars} {t : Token} → get_two_char_simple_token a b ≡ IsSign t → IsToken (a ∷ b ∷ []) [] [] rest λ r. t
+  pair : {a b : ℕ} {rest : Chars} {t : Token} → get_two_char_simple_token a b ≡ Some t → IsToken (a ∷ b ∷ []) [] [] rest λ r. t
   -- the table of signs of one letter; a sign of two goes before
   sign :
       {a : ℕ} {rest : Chars} {t : Token}
-      → get_one_char_simple_token a ≡ IsSign t
+      → get_one_char_simple_token a ≡ Some t
       → begins (pairs_with a) rest ≡ false
       → IsToken (a ∷ []) [] [] rest λ r. t
   -- "*"
@@ -192,7 +188,7 @@ pub data IsToken : Chars → Chars → Chars → Chars → (Range → Token) →
       → IsToken (45 ∷ k ∷ ks) [] [] rest λ r. Number (number_of true (k ∷ ks))
   -- zoom range = "|z" zooms
   zoom_range :
-      {ks rest : Chars} {min max : ZoomLevel}
+      {ks rest : Chars} {min max : Option ℕ}
       → IsZooms ks rest min max
       → IsToken (124 ∷ 122 ∷ ks) [] [] rest λ r. ZoomRange min max
   -- color = "#" and six hexadecimal digits, or three

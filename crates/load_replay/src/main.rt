@@ -208,14 +208,9 @@ fn count_at(answer: &[u8], number: u64, i: usize) -> usize
 fn words_are(t: &[u32], answer: &[u8], at: usize, n: usize) -> bool
     requires { (at ≤ 8388608) × (n ≤ 65535) }
 {
-    let mut i: usize = 0;
-    while i < t.len() {
-        if whole(t[i]) != stored_word(answer, at, n, i) {
-            return false;
-        }
-        i += 1;
-    }
-    true
+    t.iter()
+        .enumerate()
+        .all(|(i, word)| whole(*word) == stored_word(answer, at, n, i))
 }
 
 fn whole(w: u32) -> usize {
@@ -235,14 +230,9 @@ fn stored_word(answer: &[u8], at: usize, n: usize, i: usize) -> usize
 fn numbers_are(t: &[f64], answer: &[u8], at: usize, n: usize) -> bool
     requires { (at ≤ 8388608) × (n ≤ 65535) }
 {
-    let mut i: usize = 0;
-    while i < t.len() {
-        if !number_is(t[i], answer, at, n, i) {
-            return false;
-        }
-        i += 1;
-    }
-    true
+    t.iter()
+        .enumerate()
+        .all(|(i, number)| number_is(*number, answer, at, n, i))
 }
 
 fn number_is(x: f64, answer: &[u8], at: usize, n: usize, i: usize) -> bool

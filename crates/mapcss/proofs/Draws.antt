@@ -15,7 +15,6 @@ use Rattle.printing.specs.Plate.{five_of}
 use Rattle.valid.specs.Valid.{tables_sound}
 use Rattle.canvas.specs.Canvas.{canvas_name, rules_color, canvas_of}
 use Rattle.canvas.specs.Shown.{type_shown}
-use Rattle.canvas.specs.declared.CanvasColor.TheVariants.{CanvasIs}
 use Rattle.canvas.proofs.Shown.{canvas_is_rules}
 use Rattle.drawing.specs.Lists.{room_of}
 use Rattle.shown.specs.Draws.{nodes_drawn, areas_drawn, written}
@@ -24,6 +23,7 @@ use Rattle.shown.proofs.DrawsAre.{nodes_are, areas_are}
 use Rattle.mapcss.specs.Draws.{canvas_call, NodesOfSheet, AreasOfSheet, CanvasOfSheet}
 use Rattle.mapcss.specs.Loads.{tallied, Loads}
 use Rattle.mapcss.proofs.Loading.{exactly, never_broken, rules_spelled}
+use Rattle.std.specs.Prelude.{Ok}
 
 sound_load :
     (bundle : Bytes) (l : Lengths) (n : Counts) (h : Held)
@@ -54,7 +54,7 @@ unfolding canvas_of pick
 canvas_of_sheet bundle l n h r t =
     let s = sound_load bundle l n h r in
     let c = rules_color bundle h.rules h.selectors h.properties h.numbers (canvas_name t) (places 0 n.rules) in
-    let q : canvas_call bundle n h t ≡ CanvasIs c = rw s in
+    let q : canvas_call bundle n h t ≡ Ok c = rw s in
     let d =
     canvas_is_rules bundle h.rules h.selectors h.tests h.properties h.numbers (five_of n) t c (tallied n) h.colors refl s q in
     (c, (q, d ∙ ap (canvas_fill_color (type_shown t)) (rules_spelled bundle l n h r)))

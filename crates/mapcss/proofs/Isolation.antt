@@ -10,7 +10,6 @@ use Rattle.base.specs.Bytes.{Bytes}
 use Rattle.base.specs.Map.{Entry, Map, lookup}
 use Rattle.base.specs.Entity.{Entity}
 use Rattle.entity.specs.Layout.{single_of, value_of}
-use Rattle.entity.specs.declared.SingleEntity.TheVariants.{OneEntity}
 use Rattle.sheet.specs.Digits.{digits_for}
 use Rattle.sheet.specs.Sheet.{Selector, Rule, Value}
 use Rattle.cascade.specs.Cascade.{Layers, step}
@@ -28,10 +27,6 @@ use Rattle.decode.specs.Decode.{rules_at}
 use Rattle.printing.specs.Plate.{five_of}
 use Rattle.style.specs.declared.Settings.{Settings}
 use Rattle.styles.specs.declared.EntityStyles.{EntityStyles}
-use Rattle.styles.specs.declared.Styled.{Styled}
-use Rattle.styles.specs.declared.Styled.TheVariants.{NoStyles, Styles}
-use Rattle.walk.specs.declared.PropertyMaps.{PropertyMaps}
-use Rattle.walk.specs.declared.PropertyMaps.TheVariants.{NoMaps, Maps}
 use Rattle.shown.specs.Style.{settings_shown}
 use Rattle.shown.specs.Styles.{Styling, declined, styled, styling_of, held_by}
 use Rattle.shown.proofs.StylesAre.{styles_are}
@@ -42,6 +37,8 @@ use Rattle.mapcss.specs.Styles.{styles_shown, styles_answered, StylesOfSheet}
 use Rattle.mapcss.specs.Isolation.{Handed, rules_of, entity_of, maps, layers_in, layers_of, styles, SameReach, MapsIsolated, SameStyle, StylesIsolated, LengthsAlike, IdsAlike}
 use Rattle.mapcss.proofs.Loading.{sound, exactly, never_broken, rules_spelled, one_reading_each}
 use Rattle.mapcss.proofs.Maps.{maps_of_sheet}
+use Rattle.std.specs.Prelude.{Ok, Result, Err}
+use Rattle.base.specs.declared.refusal.Refusal.{Refusal}
 
 pub styles_of_sheet : StylesOfSheet
 unfolding rules_at
@@ -75,7 +72,7 @@ styles_told zoom s x =
 
 maps_layers :
     (zoom : ℕ) (x : Handed) (n : ℕ) (t : List ℕ)
-    → maps zoom x ≡ (Maps n, t)
+    → maps zoom x ≡ (Ok n, t)
     → property_maps zoom (entity_of x) (rules_of x) ≡ layers (layers_shown x.bundle x.counts x.tables t n)
 maps_layers zoom x n t e = sym (maps_told zoom x) ∙ ap (maps_answered x.bundle x.counts x.tables) e
 
@@ -95,11 +92,11 @@ record Styled' (zoom : ℕ) (s : Settings) (x : Handed) (k : ℕ) : Type 0 where
   shown : styles_shown x.bundle x.counts x.tables (styles zoom s x) k ≡ theory.styles (settings_shown s) (entity_of x) (layers_of zoom x)
 
 answer_layers :
-    (x : Handed) (m : PropertyMaps × List ℕ) (v : Layers Value)
+    (x : Handed) (m : Result ℕ Refusal × List ℕ) (v : Layers Value)
     → maps_answered x.bundle x.counts x.tables m ≡ layers v
     → layers_in x m ≡ v
-answer_layers x (NoMaps e, t) v p = let z : ◌≡◌ {A = ℕ} 0 1 = cc in absurd (omega arith)
-answer_layers x (Maps n, t) v p = cc
+answer_layers x (Err e, t) v p = let z : ◌≡◌ {A = ℕ} 0 1 = cc in absurd (omega arith)
+answer_layers x (Ok n, t) v p = cc
 
 styled_answer :
     (zoom : ℕ) (s : Settings) (x : Handed) (k : ℕ) (a : Answer Value)
@@ -118,7 +115,7 @@ styled_answer zoom s x k (layers v) w p =
 
 not_refused :
     (zoom : ℕ) (s : Settings) (x : Handed) (k : ℕ)
-    → (styles zoom s x).answer ≡ Styles k
+    → (styles zoom s x).answer ≡ Ok k
     → Styled' zoom s x k
 unfolding held_by
 not_refused zoom s x k e =
@@ -142,7 +139,7 @@ styles_isolated layer zoom x y r a s q same n m e f =
 
 range_one : (x y : Handed) → x.entity ≡ y.entity → entity_of x ≡ entity_of y
 range_one x y e =
-    let p : OneEntity x.range ≡ OneEntity y.range = sym x.is_entity ∙ ap single_of e ∙ y.is_entity in
+    let p : Ok x.range ≡ Ok y.range = sym x.is_entity ∙ ap single_of e ∙ y.is_entity in
     let q : x.range ≡ y.range = cc in
     rw (e, q)
 

@@ -9,9 +9,6 @@ use Rattle.base.specs.Bytes.{Bytes, ascii, same}
 use Rattle.base.specs.Choice.{pick_split}
 use Rattle.base.specs.declared.refusal.Refusal.{Refusal}
 use Rattle.bundle.specs.Bundle.{is_bundle, check_of}
-use Rattle.bundle.specs.Elim.{on-Checked}
-use Rattle.bundle.specs.declared.Checked.{Checked}
-use Rattle.bundle.specs.declared.Checked.TheVariants.{BadBundle, Texts}
 use Rattle.cursor.specs.declared.Cursor.{Cursor}
 use Rattle.sheet.specs.Sheet.{TextTest, NumericTest}
 use Rattle.token.specs.Elim.{on-Step}
@@ -32,9 +29,10 @@ use Rattle.keep.specs.Source.{reading}
 use Rattle.input.specs.Text.{next_of}
 use Rattle.input.specs.declared.Source.{Source}
 use Rattle.parser.specs.Load.{Held, zeros, sheet_at, loaded, load_of}
-use Rattle.parser.specs.declared.Loaded.{Loaded}
-use Rattle.parser.specs.declared.Loaded.TheVariants.{NotLoaded, Sheet}
 use Rattle.mapcss.specs.Numbers.{OneOf, first, later, load_numbers, LoadNumbers}
+use Rattle.std.specs.Prelude.{Result, Ok, Err}
+use Rattle.base.specs.Option.{on_result}
+use Rattle.parser.specs.declared.Counts.{Counts}
 
 -- Q holds of the refusal, if the answer is one
 data Fair {A C T R : Type 0} (Q : R → Type 0) : Answer A C T R → Type 0 where
@@ -310,13 +308,13 @@ reason_listed not_whole = later (later (later (later (later first))))
 reason_listed (full e) = later (later (later (later (later (later first)))))
 reason_listed too_deep = later (later (later (later (later (later (later first))))))
 
-abbrev CheckedIn : Checked → Type 0
-CheckedIn (BadBundle e) = Listed e
-CheckedIn (Texts n) = Unit {0}
+abbrev CheckedIn : Result ℕ Refusal → Type 0
+CheckedIn (Err e) = Listed e
+CheckedIn (Ok n) = Unit {0}
 
-abbrev LoadedIn : Loaded → Type 0
-LoadedIn (NotLoaded e) = Listed e
-LoadedIn (Sheet n) = Unit {0}
+abbrev LoadedIn : Result Counts Refusal → Type 0
+LoadedIn (Err e) = Listed e
+LoadedIn (Ok n) = Unit {0}
 
 check_in : (bundle : Bytes) → CheckedIn (check_of bundle)
 unfolding check_of
@@ -329,19 +327,19 @@ loaded_in l reads = tt
 loaded_in l (refuses q) = q
 
 load_in : (bundle : Bytes) (l : Lengths) → LoadedIn (load_of bundle l).0
-unfolding load_of on-Checked
+unfolding load_of on_result
 load_in bundle l = go (check_of bundle) (check_in bundle)
   where
     answer : Answer Reading Spot Tables Refusal
     answer = load_into (reading bundle) (capacities l) (sheet_at bundle)
 
-    go : (x : Checked) → CheckedIn x → LoadedIn (on-Checked x (λ e. (NotLoaded e, zeros l)) (λ count. loaded l answer)).0
-    go (BadBundle e) h = h
-    go (Texts n) h =
+    go : (x : Result ℕ Refusal) → CheckedIn x → LoadedIn (on_result x (λ e. (Err e, zeros l)) (λ count. loaded l answer)).0
+    go (Err e) h = h
+    go (Ok n) h =
         loaded_in l
         (load_fair (over (reading bundle) (reading bundle).fuel (limited (capacities l))) Listed
         (λ c. next_listed_lem bundle c.source c.cursor)
         (λ r o. reason_listed r) (sheet_at bundle) empty)
 
 pub load_numbers_lem : LoadNumbers
-load_numbers_lem bundle l e h p = subst (λ (x : Loaded × Held). LoadedIn x.0) p (load_in bundle l)
+load_numbers_lem bundle l e h p = subst (λ (x : Result Counts Refusal × Held). LoadedIn x.0) p (load_in bundle l)

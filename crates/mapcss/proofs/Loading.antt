@@ -8,9 +8,6 @@ use Rattle.base.specs.Bytes.{Bytes}
 use Rattle.base.specs.Choice.{different}
 use Rattle.base.specs.declared.refusal.Refusal.{Refusal}
 use Rattle.bundle.specs.Bundle.{check_of}
-use Rattle.bundle.specs.Elim.{on-Checked}
-use Rattle.bundle.specs.declared.Checked.{Checked}
-use Rattle.bundle.specs.declared.Checked.TheVariants.{BadBundle, Texts}
 use Rattle.grammar.specs.Accepted.{load_into}
 use Rattle.grammar.proofs.AcceptedProof.{accepted, accepts, one_reading}
 use Rattle.grammar.specs.Capacity.{Tables, tables_of}
@@ -24,8 +21,6 @@ use Rattle.input.specs.Source.{Spot}
 use Rattle.parser.proofs.LoadLaws.{short_bundle}
 use Rattle.parser.specs.Load.{Held, zeros, held_in, counts_of, sheet_at, loaded, load_of}
 use Rattle.parser.specs.declared.Counts.{Counts}
-use Rattle.parser.specs.declared.Loaded.{Loaded}
-use Rattle.parser.specs.declared.Loaded.TheVariants.{NotLoaded, Sheet}
 use Rattle.decode.proofs.Drawn.{reading_drawn}
 use Rattle.decode.proofs.Spells.{filled_spell}
 use Rattle.decode.specs.Decode.{rules_at}
@@ -36,22 +31,24 @@ use Rattle.valid.specs.Valid.{tables_sound}
 use Rattle.printing.specs.Plate.{five_of}
 use Rattle.mapcss.specs.Loads.{counts_for, tables_for, spelled_by, Loads, Sound, Spelled, Complete, Exactly, OneReading, RefusalZeroes, NeverBroken}
 use Rattle.mapcss.proofs.Sheets.{reads_as, as_reads}
+use Rattle.std.specs.Prelude.{Result, Ok, Err}
+use Rattle.base.specs.Option.{on_result}
 
 read_loads :
     (bundle : Bytes) (l : Lengths) (n : Counts) (h : Held) (texts : ℕ)
-    → check_of bundle ≡ Texts texts
+    → check_of bundle ≡ Ok texts
     → (a : Answer Reading Spot Tables Refusal)
     → load_into (reading bundle) (capacities l) (sheet_at bundle) ≡ a
-    → loaded l a ≡ (Sheet n, h)
+    → loaded l a ≡ (Ok n, h)
     → Loads bundle l n h
 unfolding loaded
 read_loads bundle l n h texts c (refused e υ) q w =
-    let z : NotLoaded e ≡ Sheet n = ap (λ (x : Loaded × Held). x.0) w in
+    let z : Err e ≡ Ok n = ap (λ (x : Result Counts Refusal × Held). x.0) w in
     different cc
 read_loads bundle l n h texts c (read js f υ) q w =
     let a = accepted (reading bundle) (capacities l) (sheet_at bundle) f js υ q in
     let u : υ ≡ tables_of js = a.1.1 in
-    let z : Sheet (counts_of (tally_of υ)) ≡ Sheet n = ap (λ (x : Loaded × Held). x.0) w in
+    let z : Ok (counts_of (tally_of υ)) ≡ Ok n = ap (λ (x : Result Counts Refusal × Held). x.0) w in
     let v : counts_of (tally_of υ) ≡ n = cc in
     record {
       texts = texts;
@@ -60,28 +57,28 @@ read_loads bundle l n h texts c (read js f υ) q w =
       is_sheet_lem = reads_as bundle js a.0;
       fits = a.1.0;
       counted = sym v ∙ ap (λ (υ : Tables). counts_of (tally_of υ)) u;
-      tables = sym (ap (λ (x : Loaded × Held). x.1) w) ∙ ap (λ (υ : Tables). held_in (lent_of l υ)) u;
+      tables = sym (ap (λ (x : Result Counts Refusal × Held). x.1) w) ∙ ap (λ (υ : Tables). held_in (lent_of l υ)) u;
     }
 
 pub sound : Sound
-unfolding load_of on-Checked
+unfolding load_of on_result
 sound bundle l n h e = go (check_of bundle) refl e
   where
     go :
-        (x : Checked)
+        (x : Result ℕ Refusal)
         → check_of bundle ≡ x
-        → on-Checked x (λ e. (NotLoaded e, zeros l)) (λ count. loaded l (load_into (reading bundle) (capacities l) (sheet_at bundle))) ≡ (Sheet n, h)
+        → on_result x (λ e. (Err e, zeros l)) (λ count. loaded l (load_into (reading bundle) (capacities l) (sheet_at bundle))) ≡ (Ok n, h)
         → Loads bundle l n h
-    go (BadBundle y) q w =
-        let z : NotLoaded y ≡ Sheet n = ap (λ (x : Loaded × Held). x.0) w in
+    go (Err y) q w =
+        let z : Err y ≡ Ok n = ap (λ (x : Result Counts Refusal × Held). x.0) w in
         different cc
-    go (Texts k) q w = read_loads bundle l n h k q _ refl w
+    go (Ok k) q w = read_loads bundle l n h k q _ refl w
 
 pub complete : Complete
-unfolding load_of on-Checked loaded
+unfolding load_of on_result loaded
 complete bundle l texts js c r b =
     let a = accepts (reading bundle) (fueled bundle (lent_store bundle)) (capacities l) (sheet_at bundle) js (as_reads bundle js r) b in
-    ap (λ x. on-Checked x (λ e. (NotLoaded e, zeros l)) (λ count. loaded l (load_into (reading bundle) (capacities l) (sheet_at bundle)))) c
+    ap (λ x. on_result x (λ e. (Err e, zeros l)) (λ count. loaded l (load_into (reading bundle) (capacities l) (sheet_at bundle)))) c
     ∙ ap (loaded l) a.1
 
 pub one_reading_each : OneReading
@@ -89,24 +86,24 @@ one_reading_each bundle js ks a b = one_reading (reading bundle) (fueled bundle 
 
 refused_zero :
     (l : Lengths) (e : Refusal) (h : Held) (a : Answer Reading Spot Tables Refusal)
-    → loaded l a ≡ (NotLoaded e, h)
+    → loaded l a ≡ (Err e, h)
     → h ≡ zeros l
 unfolding loaded
-refused_zero l e h (refused x υ) w = sym (ap (λ (x : Loaded × Held). x.1) w)
+refused_zero l e h (refused x υ) w = sym (ap (λ (x : Result Counts Refusal × Held). x.1) w)
 refused_zero l e h (read js f υ) w =
-    let z : Sheet (counts_of (tally_of υ)) ≡ NotLoaded e = ap (λ (x : Loaded × Held). x.0) w in
+    let z : Ok (counts_of (tally_of υ)) ≡ Err e = ap (λ (x : Result Counts Refusal × Held). x.0) w in
     different cc
 
 pub refusal_zeroes : RefusalZeroes
-unfolding load_of on-Checked
+unfolding load_of on_result
 refusal_zeroes bundle l e h w = go (check_of bundle) w
   where
     go :
-        (x : Checked)
-        → on-Checked x (λ e. (NotLoaded e, zeros l)) (λ count. loaded l (load_into (reading bundle) (capacities l) (sheet_at bundle))) ≡ (NotLoaded e, h)
+        (x : Result ℕ Refusal)
+        → on_result x (λ e. (Err e, zeros l)) (λ count. loaded l (load_into (reading bundle) (capacities l) (sheet_at bundle))) ≡ (Err e, h)
         → h ≡ zeros l
-    go (BadBundle y) w = sym (ap (λ (x : Loaded × Held). x.1) w)
-    go (Texts k) w = refused_zero l e h (load_into (reading bundle) (capacities l) (sheet_at bundle)) w
+    go (Err y) w = sym (ap (λ (x : Result Counts Refusal × Held). x.1) w)
+    go (Ok k) w = refused_zero l e h (load_into (reading bundle) (capacities l) (sheet_at bundle)) w
 
 -- ---- never 22
 
@@ -152,7 +149,7 @@ pub exactly : Exactly
 exactly bundle l n h = (
   sound bundle l n h,
   λ s. (
-    complete bundle l s.texts s.js s.checked s.is_sheet_lem s.fits ∙ sym (ap (λ n. (Sheet n, h)) s.counted ∙ ap (λ h. (Sheet (counts_for s.js), h)) s.tables),
+    complete bundle l s.texts s.js s.checked s.is_sheet_lem s.fits ∙ sym (ap (λ n. (Ok n, h)) s.counted ∙ ap (λ h. (Ok (counts_for s.js), h)) s.tables),
     rules_spelled bundle l n h s,
   ),
 )

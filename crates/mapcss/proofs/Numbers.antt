@@ -11,15 +11,8 @@ use Rattle.base.specs.Choice.{pick_split}
 use Rattle.base.specs.Refusal.{of_entity}
 use Rattle.base.specs.Turns.{Turn, more, done, after, turns}
 use Rattle.base.specs.declared.refusal.Refusal.{Refusal}
-use Rattle.entity.specs.Elim.{on-EntityAt, on-SingleEntity, on-NextEntity}
 use Rattle.entity.specs.Layout.{entity_at, single_of, next_of}
-use Rattle.entity.specs.declared.EntityAt.{EntityAt}
-use Rattle.entity.specs.declared.EntityAt.TheVariants.{NoEntity, Whole}
 use Rattle.entity.specs.declared.EntityRange.{EntityRange}
-use Rattle.entity.specs.declared.NextEntity.{NextEntity}
-use Rattle.entity.specs.declared.NextEntity.TheVariants.{BadNext, NoMore, Next}
-use Rattle.entity.specs.declared.SingleEntity.{SingleEntity}
-use Rattle.entity.specs.declared.SingleEntity.TheVariants.{BadEntity, OneEntity}
 use Rattle.entity.specs.declared.Sort.{Sort}
 use Rattle.entity.specs.declared.Sort.TheVariants.{Any, Nodes, Areas}
 use Rattle.cascade.specs.Clause.{star}
@@ -29,22 +22,17 @@ use Rattle.valid.specs.Valid.{tables_sound}
 use Rattle.valid.specs.declared.Counts.{Counts}
 use Rattle.walk.specs.Maps.{finish, walk_of, maps_of}
 use Rattle.walk.specs.Run.{Run, stop, going, bind, grown, assign_at, assign_all, seek, new_row, touch_of, step_of, on_verdict, hit_of, selectors_of, rule_of, rules_of}
-use Rattle.walk.specs.declared.PropertyMaps.{PropertyMaps}
-use Rattle.walk.specs.declared.PropertyMaps.TheVariants.{NoMaps, Maps}
 use Rattle.style.specs.declared.Settings.{Settings}
 use Rattle.styles.specs.Styles.{no_styles, filled_layers, styles_from, styles_of}
 use Rattle.styles.specs.declared.EntityStyles.{EntityStyles}
-use Rattle.styles.specs.declared.Styled.{Styled}
-use Rattle.styles.specs.declared.Styled.TheVariants.{NoStyles, Styles}
 use Rattle.canvas.specs.Canvas.{canvas_of}
-use Rattle.canvas.specs.declared.CanvasColor.{CanvasColor}
-use Rattle.canvas.specs.declared.CanvasColor.TheVariants.{NotJudged, CanvasIs}
 use Rattle.order.specs.Keys.{Key}
 use Rattle.drawing.specs.Gather.{Gathered, stopped, gathered, on-Gathered, keys_in, push, Spot, gather_turn, gather_of}
 use Rattle.drawing.specs.Lists.{listed, room_of, nodes_of, areas_of}
-use Rattle.drawing.specs.declared.DrawList.{DrawList}
-use Rattle.drawing.specs.declared.DrawList.TheVariants.{NoList, Listed}
 use Rattle.mapcss.specs.Numbers.{OneOf, first, later, entity_numbers, list_numbers, canvas_numbers, MapsNumbers, StylesNumbers, NodesNumbers, AreasNumbers, CanvasNumbers}
+use Rattle.std.specs.Prelude.{Option, Some, None, Result, Ok, Err}
+use Rattle.base.specs.Option.{on_option, on_result, on_result_option}
+use Rattle.color.specs.declared.Color.{Color}
 
 of_entity_lem : {ks : List ℕ} (k : ℕ) (mp : Bool) (place : ℕ) → OneOf ks k → OneOf ks (of_entity k mp place).number
 of_entity_lem k true place h = h
@@ -56,26 +44,26 @@ abbrev RunIn : Run → Type 0
 RunIn (stop k) = OneOf entity_numbers k
 RunIn (going n t) = Unit {0}
 
-abbrev MapsIn : PropertyMaps → Type 0
-MapsIn (NoMaps e) = OneOf entity_numbers e.number
-MapsIn (Maps n) = Unit {0}
+abbrev MapsIn : Result ℕ Refusal → Type 0
+MapsIn (Err e) = OneOf entity_numbers e.number
+MapsIn (Ok n) = Unit {0}
 
-abbrev SingleIn : SingleEntity → Type 0
-SingleIn (BadEntity e) = OneOf entity_numbers e.number
-SingleIn (OneEntity e) = Unit {0}
+abbrev SingleIn : Result EntityRange Refusal → Type 0
+SingleIn (Err e) = OneOf entity_numbers e.number
+SingleIn (Ok e) = Unit {0}
 
-abbrev NextIn : NextEntity → Type 0
-NextIn (BadNext e) = OneOf entity_numbers e.number
-NextIn NoMore = Unit {0}
-NextIn (Next e) = Unit {0}
+abbrev NextIn : Result (Option EntityRange) Refusal → Type 0
+NextIn (Err e) = OneOf entity_numbers e.number
+NextIn (Ok None) = Unit {0}
+NextIn (Ok (Some e)) = Unit {0}
 
-abbrev StyledIn : Styled → Type 0
-StyledIn (NoStyles e) = OneOf entity_numbers e.number
-StyledIn (Styles n) = Unit {0}
+abbrev StyledIn : Result ℕ Refusal → Type 0
+StyledIn (Err e) = OneOf entity_numbers e.number
+StyledIn (Ok n) = Unit {0}
 
-abbrev CanvasIn : CanvasColor → Type 0
-CanvasIn (NotJudged e) = OneOf canvas_numbers e.number
-CanvasIn (CanvasIs c) = Unit {0}
+abbrev CanvasIn : Result (Option Color) Refusal → Type 0
+CanvasIn (Err e) = OneOf canvas_numbers e.number
+CanvasIn (Ok c) = Unit {0}
 
 abbrev GatheredIn : Gathered → Type 0
 GatheredIn (stopped e) = OneOf list_numbers e.number
@@ -85,9 +73,9 @@ abbrev TurnIn : Turn Spot Gathered → Type 0
 TurnIn (more x) = Unit {0}
 TurnIn (done g) = GatheredIn g
 
-abbrev ListIn : DrawList → Type 0
-ListIn (NoList e) = OneOf list_numbers e.number
-ListIn (Listed n) = Unit {0}
+abbrev ListIn : Result ℕ Refusal → Type 0
+ListIn (Err e) = OneOf list_numbers e.number
+ListIn (Ok n) = Unit {0}
 
 -- ---- the numbers
 
@@ -185,20 +173,20 @@ walk_in :
     → MapsIn (walk_of bundle rules selectors tests properties numbers total zoom s e mp place).0
 unfolding walk_of
 walk_in bundle rules selectors tests properties numbers total zoom s e mp place =
-    pick_split (λ (x : PropertyMaps × List ℕ). MapsIn x.0) (ltb 16384 total) _ _ (λ e. n22)
+    pick_split (λ (x : Result ℕ Refusal × List ℕ). MapsIn x.0) (ltb 16384 total) _ _ (λ e. n22)
     (λ e. finish_in mp place _ (rules_in _ _ _ rules _ 0 0 total))
 
 -- ---- entities
 
 -- what holds of both ways holds of the choice
 entity_split :
-    {A : Type 0} (P : A → Type 0) (x : EntityAt) (a : A) (f : EntityRange → A)
+    {A : Type 0} (P : A → Type 0) (x : Option EntityRange) (a : A) (f : EntityRange → A)
     → P a
     → ((e : EntityRange) → P (f e))
-    → P (on-EntityAt x a f)
-unfolding on-EntityAt
-entity_split P NoEntity a f h g = h
-entity_split P (Whole e) a f h g = g e
+    → P (on_option x a f)
+unfolding on_option
+entity_split P None a f h g = h
+entity_split P (Some e) a f h g = g e
 
 single_in : (s : Bytes) → SingleIn (single_of s)
 unfolding single_of
@@ -224,33 +212,33 @@ next_in sort mp s at place =
 -- ---- property maps and styles
 
 single_split :
-    {A : Type 0} (P : A → Type 0) (x : SingleEntity) (f : Refusal → A) (g : EntityRange → A)
+    {A : Type 0} (P : A → Type 0) (x : Result EntityRange Refusal) (f : Refusal → A) (g : EntityRange → A)
     → SingleIn x
     → ((e : Refusal) → OneOf entity_numbers e.number → P (f e))
     → ((e : EntityRange) → P (g e))
-    → P (on-SingleEntity x f g)
-unfolding on-SingleEntity
-single_split P (BadEntity e) f g h k l = k e h
-single_split P (OneEntity e) f g h k l = l e
+    → P (on_result x f g)
+unfolding on_result
+single_split P (Err e) f g h k l = k e h
+single_split P (Ok e) f g h k l = l e
 
 module _ (bundle : Bytes) (rules selectors tests properties : List ℕ) (numbers : List Float) (n : Counts) (zoom : ℕ) where
   maps_in : (entity : Bytes) → MapsIn (maps_of bundle rules selectors tests properties numbers n zoom entity).0
   unfolding maps_of
   maps_in entity =
-      pick_split (λ (x : PropertyMaps × List ℕ). MapsIn x.0) (tables_sound rules selectors tests properties numbers n (length bundle)) _ _
+      pick_split (λ (x : Result ℕ Refusal × List ℕ). MapsIn x.0) (tables_sound rules selectors tests properties numbers n (length bundle)) _ _
       (λ q.
-      single_split (λ (x : PropertyMaps × List ℕ). MapsIn x.0) (single_of entity) _ _ (single_in entity)
+      single_split (λ (x : Result ℕ Refusal × List ℕ). MapsIn x.0) (single_of entity) _ _ (single_in entity)
       (λ e h. h)
       (λ e. walk_in bundle rules selectors tests properties numbers n.rules zoom entity e false 0))
       (λ q. n22)
 
   styles_from_in :
-      (kind : ℕ) (layer : _) (s : Settings) (x : PropertyMaps × List ℕ)
+      (kind : ℕ) (layer : _) (s : Settings) (x : Result ℕ Refusal × List ℕ)
       → MapsIn x.0
       → StyledIn (styles_from bundle selectors properties numbers kind layer s x).answer
   unfolding styles_from no_styles filled_layers
-  styles_from_in kind layer s (NoMaps e, t) h = h
-  styles_from_in kind layer s (Maps k, t) h = tt
+  styles_from_in kind layer s (Err e, t) h = h
+  styles_from_in kind layer s (Ok k, t) h = tt
 
   styles_in :
       (s : Settings) (entity : Bytes)
@@ -268,7 +256,7 @@ module _ (bundle : Bytes) (rules selectors tests properties : List ℕ) (numbers
 
 pub maps_numbers : MapsNumbers
 maps_numbers bundle rules selectors tests properties numbers n zoom entity e t p =
-    subst (λ (x : PropertyMaps × List ℕ). MapsIn x.0) p (maps_in bundle rules selectors tests properties numbers n zoom entity)
+    subst (λ (x : Result ℕ Refusal × List ℕ). MapsIn x.0) p (maps_in bundle rules selectors tests properties numbers n zoom entity)
 
 pub styles_numbers : StylesNumbers
 styles_numbers bundle rules selectors tests properties numbers n zoom s entity e p =
@@ -302,16 +290,16 @@ gathered_split P (stopped e) f g h k l = k e h
 gathered_split P (gathered x) f g h k l = l x
 
 next_split :
-    {A : Type 0} (P : A → Type 0) (x : NextEntity) (f : Refusal → A) (a : A) (g : EntityRange → A)
+    {A : Type 0} (P : A → Type 0) (x : Result (Option EntityRange) Refusal) (f : Refusal → A) (a : A) (g : EntityRange → A)
     → NextIn x
     → ((e : Refusal) → OneOf entity_numbers e.number → P (f e))
     → P a
     → ((e : EntityRange) → P (g e))
-    → P (on-NextEntity x f a g)
-unfolding on-NextEntity
-next_split P (BadNext e) f a g h k i l = k e h
-next_split P NoMore f a g h k i l = i
-next_split P (Next e) f a g h k i l = l e
+    → P (on_result_option x f a g)
+unfolding on_result on_option
+next_split P (Err e) f a g h k i l = k e h
+next_split P (Ok None) f a g h k i l = i
+next_split P (Ok (Some e)) f a g h k i l = l e
 
 after_in : (t : Turn Spot Gathered) (rest : Spot → Gathered) → TurnIn t → ((x : Spot) → GatheredIn (rest x)) → GatheredIn (after t rest)
 after_in (more x) rest h k = k x
@@ -329,12 +317,12 @@ turns_in f d h i (suc n) x = after_in (f x) (turns f d n) (h x) (turns_in f d h 
 
 module _ (bundle : Bytes) (rules selectors tests properties : List ℕ) (numbers : List Float) (total zoom : ℕ) (for_labels : Bool) where
   keys_in_lem :
-      (mp : Bool) (place kind id : ℕ) (layer : _) (x : PropertyMaps × List ℕ)
+      (mp : Bool) (place kind id : ℕ) (layer : _) (x : Result ℕ Refusal × List ℕ)
       → MapsIn x.0
       → GatheredIn (keys_in bundle selectors properties numbers for_labels mp place kind id layer x)
   unfolding keys_in
-  keys_in_lem mp place kind id layer (NoMaps e, t) h = wider h
-  keys_in_lem mp place kind id layer (Maps k, t) h = pick_split GatheredIn _ _ _ (λ q. of_entity_lem 9 mp place m9) (λ q. tt)
+  keys_in_lem mp place kind id layer (Err e, t) h = wider h
+  keys_in_lem mp place kind id layer (Ok k, t) h = pick_split GatheredIn _ _ _ (λ q. of_entity_lem 9 mp place m9) (λ q. tt)
 
   gather_in :
       (room : ℕ) (sort : Sort) (mp : Bool) (s : Bytes) (sofar : List Key)
@@ -364,7 +352,7 @@ pub nodes_numbers : NodesNumbers
 unfolding nodes_of
 nodes_numbers bundle rules selectors tests properties numbers n zoom s len nodes e words p =
     let gather = gather_in bundle rules selectors tests properties numbers n.rules zoom s.for_labels (room_of len) in
-    subst (λ (x : DrawList × List ℕ). ListIn x.0) p
+    subst (λ (x : Result ℕ Refusal × List ℕ). ListIn x.0) p
     (listed_in len _
     (pick_split GatheredIn (tables_sound rules selectors tests properties numbers n (length bundle)) _ _
     (λ q. gathered_split GatheredIn _ _ _ (gather Nodes false nodes []) (λ e h. h) (λ l. tt))
@@ -374,7 +362,7 @@ pub areas_numbers : AreasNumbers
 unfolding areas_of
 areas_numbers bundle rules selectors tests properties numbers n zoom s len ways multipolygons e words p =
     let gather = gather_in bundle rules selectors tests properties numbers n.rules zoom s.for_labels (room_of len) in
-    subst (λ (x : DrawList × List ℕ). ListIn x.0) p
+    subst (λ (x : Result ℕ Refusal × List ℕ). ListIn x.0) p
     (listed_in len _
     (pick_split GatheredIn (tables_sound rules selectors tests properties numbers n (length bundle)) _ _
     (λ q.

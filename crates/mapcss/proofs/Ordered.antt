@@ -23,11 +23,11 @@ use Rattle.cascade.specs.Style as theory
 use Rattle.cascade.specs.Walk.{property_maps}
 use Rattle.grammar.specs.Rules.{rules_of_reading}
 use Rattle.drawing.specs.Lists.{room_of}
-use Rattle.drawing.specs.declared.DrawList.TheVariants.{Listed}
 use Rattle.shown.specs.Draws.{ended, stream_drawn, nodes_drawn, areas_drawn, drawn_words, written}
 use Rattle.shown.specs.Style.{settings_shown}
 use Rattle.mapcss.specs.Draws.{NodesOrdered, AreasOrdered}
 use Rattle.mapcss.proofs.Draws.{nodes_of_sheet, areas_of_sheet}
+use Rattle.std.specs.Prelude.{Ok}
 
 join_entries :
     (f : List Drawn → List Drawn → List Drawn) (a b : Drawing) (xs ys ds : List Drawn)
@@ -86,7 +86,7 @@ module _ (room : ℕ) (mp : Bool) (s : theory.Settings) (z : ℕ) (rs : List (Ru
 
 written_entries :
     (len : ℕ) (d : Drawing) (count : ℕ) (words : List ℕ)
-    → written len d ≡ (Listed count, words)
+    → written len d ≡ (Ok count, words)
     → (ds : List Drawn) × (d ≡ entries ds) × (count ≡ length ds) × (words ≡ padded 0 len (flat (map drawn_words ds)))
 unfolding written
 written_entries len (declined r) count words p = let q = ap (λ x. x.0) p in let z : ◌≡◌ {A = ℕ} 0 1 = cc in absurd (omega arith)

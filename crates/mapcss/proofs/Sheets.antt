@@ -11,9 +11,6 @@ use Rattle.base.specs.Refusal.{refusal}
 use Rattle.base.specs.declared.Range.{Range}
 use Rattle.base.specs.declared.refusal.Refusal.{Refusal}
 use Rattle.bundle.specs.Bundle.{find_of}
-use Rattle.bundle.specs.Elim.{on-FoundText}
-use Rattle.bundle.specs.declared.FoundText.{FoundText}
-use Rattle.bundle.specs.declared.FoundText.TheVariants.{Missing, Text}
 use Rattle.cursor.specs.Cursor.{start}
 use Rattle.cursor.specs.declared.Cursor.{Cursor}
 use Rattle.token.specs.Elim.{on-Step}
@@ -39,6 +36,8 @@ use Rattle.input.specs.declared.Place.{Place}
 use Rattle.input.specs.declared.Source.{Source}
 use Rattle.parser.specs.Load.{first_text, sheet_at}
 use Rattle.mapcss.specs.Sheets.{HasTokens, last, then, HasText, ReadsAs}
+use Rattle.std.specs.Prelude.{Option, Some, None}
+use Rattle.base.specs.Option.{on_option, on_option2}
 
 -- a sheet, whichever way its imports are found
 module _ {Text Text' : Bytes → List Token' → Type 0} (countable : Float → Bool) (f : (n : Bytes) (q : List Token') → Text n q → Text' n q) where
@@ -108,20 +107,20 @@ module _ (bundle : Bytes) where
       (w.0, (w.1.0, (ap (seen s) x.1.1.1.0 ▸ w.1.1.0, w.1.1.1)))
 
   text_tokens : (n : Bytes) (q : List Token') → TextOf (reading bundle) n q → HasText bundle n q
-  unfolding on-FoundText
+  unfolding on_option
   text_tokens n q (c, (e, (f, (d, (g, h))))) = go (find_of bundle n) refl e
     where
-      go : (x : FoundText) → find_of bundle n ≡ x → on-FoundText x none (λ k r. some (spot (source k r) start)) ≡ some c → HasText bundle n q
-      go Missing m e = different cc
-      go (Text k r) m e =
+      go : (x : Option (ℕ × Range)) → find_of bundle n ≡ x → on_option2 x none (λ k r. some (spot (source k r) start)) ≡ some c → HasText bundle n q
+      go None m e = different cc
+      go (Some (k, r)) m e =
           let z : c ≡ spot (source k r) start = cc in
           (k, (r, (m, subst (λ (y : Spot). HasTokens bundle y.source y.cursor.at q) z (gives_tokens {f = f} g h))))
 
   tokens_text : (n : Bytes) (q : List Token') → HasText bundle n q → TextOf (reading bundle) n q
-  unfolding on-FoundText
+  unfolding on_option
   tokens_text n q (k, (r, (m, h))) = (
     spot (source k r) start,
-    (ap (λ x. on-FoundText x none (λ k r. some (spot (source k r) start))) m, tokens_whole (source k r) start refl h),
+    (ap (λ x. on_option2 x none (λ k r. some (spot (source k r) start))) m, tokens_whole (source k r) start refl h),
   )
 
   pub reads_as : (js : Reading) → Reads (reading bundle) (sheet_at bundle) js → ReadsAs bundle js

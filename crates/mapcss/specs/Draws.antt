@@ -1,10 +1,9 @@
 -- What holds of the drawing lists and the canvas colour beside every loaded sheet: for every bundle, every six lengths of the tables,
 -- every zoom, all settings, every list and all streams, which may be any bytes.
-use Rattle.std.specs.Prelude.{ℕ, ◌≡◌, Bool, true, false, List, ◌++◌, map, length}
+use Rattle.std.specs.Prelude.{ℕ, ◌≡◌, Bool, true, false, List, ◌++◌, map, length, Option, Result, Ok}
 use Rattle.std.proofs.Math.Option.{none}
 use Rattle.base.specs.Bytes.{Bytes}
 use Rattle.base.specs.Table.{padded, flat}
-use Rattle.color.specs.declared.NamedColor.{NamedColor}
 use Rattle.entity.specs.Layout.{stream_of}
 use Rattle.entity.specs.declared.Sort.TheVariants.{Nodes, Areas}
 use Rattle.sheet.specs.Digits.{digits_for}
@@ -20,26 +19,24 @@ use Rattle.style.specs.declared.Settings.{Settings}
 use Rattle.style.specs.declared.StyleType.{StyleType}
 use Rattle.canvas.specs.Canvas.{canvas_of}
 use Rattle.canvas.specs.Shown.{type_shown}
-use Rattle.canvas.specs.declared.CanvasColor.{CanvasColor}
-use Rattle.canvas.specs.declared.CanvasColor.TheVariants.{CanvasIs}
 use Rattle.drawing.specs.Lists.{room_of, nodes_of, areas_of}
-use Rattle.drawing.specs.declared.DrawList.{DrawList}
-use Rattle.drawing.specs.declared.DrawList.TheVariants.{Listed}
 use Rattle.shown.specs.Draws.{nodes_drawn, areas_drawn, drawn_words, written}
 use Rattle.shown.specs.Style.{settings_shown}
 use Rattle.mapcss.specs.Loads.{Loads}
+use Rattle.base.specs.declared.refusal.Refusal.{Refusal}
+use Rattle.color.specs.declared.Color.{Color}
 
 -- the calls, with the tables, the counts and the bundle of a load, and a list of so many words
 module _ (bundle : Bytes) (n : Counts) (h : Held) where
-  abbrev pub nodes_call : ℕ → Settings → ℕ → Bytes → DrawList × List ℕ
+  abbrev pub nodes_call : ℕ → Settings → ℕ → Bytes → Result ℕ Refusal × List ℕ
   nodes_call zoom s len nodes =
       nodes_of bundle h.rules h.selectors h.tests h.properties h.numbers (five_of n) zoom s len nodes
 
-  abbrev pub areas_call : ℕ → Settings → ℕ → Bytes → Bytes → DrawList × List ℕ
+  abbrev pub areas_call : ℕ → Settings → ℕ → Bytes → Bytes → Result ℕ Refusal × List ℕ
   areas_call zoom s len ways multipolygons =
       areas_of bundle h.rules h.selectors h.tests h.properties h.numbers (five_of n) zoom s len ways multipolygons
 
-  abbrev pub canvas_call : StyleType → CanvasColor
+  abbrev pub canvas_call : StyleType → Result (Option Color) Refusal
   canvas_call t = canvas_of bundle h.rules h.selectors h.tests h.properties h.numbers (five_of n) t
 
 -- The answer and every word of the list are those of the theory's drawing list over the rules of the sheet, as far as there is room.
@@ -63,8 +60,8 @@ AreasOfSheet =
 abbrev pub CanvasOfSheet : Type 0
 CanvasOfSheet =
     (bundle : Bytes) (l : Lengths) (n : Counts) (h : Held) (r : Loads bundle l n h) (t : StyleType)
-    → (c : NamedColor)
-    × ((canvas_call bundle n h t ≡ CanvasIs c) × (named_color c ≡ canvas_fill_color (type_shown t) (rules_of_reading digits_for r.js)))
+    → (c : Option Color)
+    × ((canvas_call bundle n h t ≡ Ok c) × (named_color c ≡ canvas_fill_color (type_shown t) (rules_of_reading digits_for r.js)))
 
 -- What a list that is not refused holds, beside all the styled layers as the streams give them: the entries of a stable sort, each as
 -- three words, then zeros.
@@ -79,7 +76,7 @@ abbrev pub NodesOrdered : Type 0
 NodesOrdered =
     (bundle : Bytes) (l : Lengths) (n : Counts) (h : Held) (r : Loads bundle l n h) (zoom : ℕ) (s : Settings) (len : ℕ) (nodes : Bytes)
     (count : ℕ) (words : List ℕ)
-    → nodes_call bundle n h zoom s len nodes ≡ (Listed count, words)
+    → nodes_call bundle n h zoom s len nodes ≡ (Ok count, words)
     → ((stream_of Nodes false nodes).stopped ≡ none)
     × (given : List Drawn)
     × (stream false (settings_shown s) zoom (rules_of_reading digits_for r.js) 0 (stream_of Nodes false nodes).entities ≡ entries given)
@@ -90,7 +87,7 @@ abbrev pub AreasOrdered : Type 0
 AreasOrdered =
     (bundle : Bytes) (l : Lengths) (n : Counts) (h : Held) (r : Loads bundle l n h) (zoom : ℕ) (s : Settings) (len : ℕ)
     (ways multipolygons : Bytes) (count : ℕ) (words : List ℕ)
-    → areas_call bundle n h zoom s len ways multipolygons ≡ (Listed count, words)
+    → areas_call bundle n h zoom s len ways multipolygons ≡ (Ok count, words)
     → ((stream_of Areas false ways).stopped ≡ none)
     × ((stream_of Areas true multipolygons).stopped ≡ none)
     × (ofWays : List Drawn)

@@ -1,12 +1,11 @@
 -- Demand 3 on the public calls: nobody who edits only outside a layer's reach can change it.
-use Rattle.std.specs.Prelude.{ℕ, ◌≡◌, false, List, []}
+use Rattle.std.specs.Prelude.{ℕ, ◌≡◌, false, List, [], Ok, Result, Err}
 use Rattle.std.proofs.Math.Option.{none, some}
 use Rattle.base.specs.Bytes.{Bytes, same}
 use Rattle.base.specs.Map.{Map, lookup}
 use Rattle.base.specs.Entity.{Entity}
 use Rattle.entity.specs.Layout.{single_of, value_of}
 use Rattle.entity.specs.declared.EntityRange.{EntityRange}
-use Rattle.entity.specs.declared.SingleEntity.TheVariants.{OneEntity}
 use Rattle.sheet.specs.Digits.{digits_for}
 use Rattle.sheet.specs.Sheet.{Rule, Value}
 use Rattle.cascade.specs.Cascade.{Layers}
@@ -18,16 +17,13 @@ use Rattle.grammar.specs.Rules.{rules_of_reading}
 use Rattle.keep.specs.Encode.{Lengths}
 use Rattle.parser.specs.Load.{Held, load_of}
 use Rattle.parser.specs.declared.Counts.{Counts}
-use Rattle.parser.specs.declared.Loaded.TheVariants.{Sheet}
 use Rattle.style.specs.declared.Settings.{Settings}
 use Rattle.styles.specs.declared.EntityStyles.{EntityStyles}
-use Rattle.styles.specs.declared.Styled.TheVariants.{Styles}
-use Rattle.walk.specs.declared.PropertyMaps.{PropertyMaps}
-use Rattle.walk.specs.declared.PropertyMaps.TheVariants.{NoMaps, Maps}
 use Rattle.shown.specs.Style.{settings_shown}
 use Rattle.mapcss.specs.Sheets.{ReadsAs}
 use Rattle.mapcss.specs.Maps.{maps_call, maps_answered, layers_shown}
 use Rattle.mapcss.specs.Styles.{styles_call, styles_answered, styles_shown}
+use Rattle.base.specs.declared.refusal.Refusal.{Refusal}
 
 -- A sheet with an entity: "each gets its own sheet's tables, counts and bundle as loaded, its own entity, and the one zoom".
 pub record Handed : Type 0 where
@@ -37,14 +33,14 @@ pub record Handed : Type 0 where
   pub counts : Counts
   pub tables : Held
   -- "A sheet is accepted if its load succeeds;"
-  pub accepted : load_of bundle lengths ≡ (Sheet counts, tables)
+  pub accepted : load_of bundle lengths ≡ (Ok counts, tables)
   -- "its rules are those the grammar reads."
   pub reading : Reading
   pub reads : ReadsAs bundle reading
   -- an entity, as its bytes are read
   pub entity : Bytes
   pub range : EntityRange
-  pub is_entity : single_of entity ≡ OneEntity range
+  pub is_entity : single_of entity ≡ Ok range
 
 abbrev pub rules_of : Handed → List (Rule Value)
 rules_of x = rules_of_reading digits_for x.reading
@@ -53,12 +49,12 @@ abbrev pub entity_of : Handed → Entity
 entity_of x = value_of x.entity x.range
 
 -- the call for property maps, and its layers
-abbrev pub maps : ℕ → Handed → PropertyMaps × List ℕ
+abbrev pub maps : ℕ → Handed → Result ℕ Refusal × List ℕ
 maps zoom x = maps_call x.bundle x.counts x.tables zoom x.entity
 
-abbrev pub layers_in : Handed → PropertyMaps × List ℕ → Layers Value
-layers_in x (NoMaps e, t) = []
-layers_in x (Maps n, t) = layers_shown x.bundle x.counts x.tables t n
+abbrev pub layers_in : Handed → Result ℕ Refusal × List ℕ → Layers Value
+layers_in x (Err e, t) = []
+layers_in x (Ok n, t) = layers_shown x.bundle x.counts x.tables t n
 
 abbrev pub layers_of : ℕ → Handed → Layers Value
 layers_of zoom x = layers_in x (maps zoom x)
@@ -82,8 +78,8 @@ MapsIsolated =
     → SameReach layer x y
     -- "where neither call is refused,"
     → (n m : ℕ) (t u : List ℕ)
-    → maps zoom x ≡ (Maps n, t)
-    → maps zoom y ≡ (Maps m, u)
+    → maps zoom x ≡ (Ok n, t)
+    → maps zoom y ≡ (Ok m, u)
     -- "demand 2's layer is in both or neither, with equal properties in equal order."
     → lookup layer (layers_shown x.bundle x.counts x.tables t n)
     ≡ lookup layer (layers_shown y.bundle y.counts y.tables u m)
@@ -111,8 +107,8 @@ StylesIsolated =
     → settings_shown s ≡ settings_shown q
     -- "where neither call is refused,"
     → (n m : ℕ)
-    → (styles zoom s x).answer ≡ Styles n
-    → (styles zoom q y).answer ≡ Styles m
+    → (styles zoom s x).answer ≡ Ok n
+    → (styles zoom q y).answer ≡ Ok m
     → lookup layer (styles_shown x.bundle x.counts x.tables (styles zoom s x) n)
     ≡ lookup layer (styles_shown y.bundle y.counts y.tables (styles zoom q y) m)
 

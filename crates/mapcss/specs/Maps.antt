@@ -1,10 +1,9 @@
 -- What holds of the property maps of every entity beside every loaded sheet: for every bundle, every six lengths of the tables, every
 -- zoom and every entity, which may be any bytes.
-use Rattle.std.specs.Prelude.{ℕ, ◌≡◌, List}
+use Rattle.std.specs.Prelude.{ℕ, ◌≡◌, List, Ok, Result}
 use Rattle.base.specs.Bytes.{Bytes}
 use Rattle.entity.specs.Layout.{single_of, value_of}
 use Rattle.entity.specs.declared.EntityRange.{EntityRange}
-use Rattle.entity.specs.declared.SingleEntity.TheVariants.{OneEntity}
 use Rattle.sheet.specs.Digits.{digits_for}
 use Rattle.sheet.specs.Sheet.{Value}
 use Rattle.table.specs.Value.{value_at}
@@ -21,10 +20,9 @@ use Rattle.parser.specs.declared.Counts.{Counts}
 use Rattle.decode.specs.Decode.{selector_in, name_at, value_of as value_in}
 use Rattle.maps.specs.Held.{layers_held, answer_held}
 use Rattle.walk.specs.Maps.{maps_of}
-use Rattle.walk.specs.declared.PropertyMaps.{PropertyMaps}
-use Rattle.walk.specs.declared.PropertyMaps.TheVariants.{Maps}
 use Rattle.printing.specs.Plate.{five_of}
 use Rattle.mapcss.specs.Loads.{tallied, Loads}
+use Rattle.base.specs.declared.refusal.Refusal.{Refusal}
 
 -- the tables and counts of a load
 module _ (bundle : Bytes) (n : Counts) (h : Held) where
@@ -36,14 +34,14 @@ module _ (bundle : Bytes) (n : Counts) (h : Held) where
   value_numbered p = value_in bundle tables_of_load (value_at h.properties h.numbers p)
 
   -- the call, with the tables, the counts and the bundle of the load
-  abbrev pub maps_call : ℕ → Bytes → PropertyMaps × List ℕ
+  abbrev pub maps_call : ℕ → Bytes → Result ℕ Refusal × List ℕ
   maps_call zoom entity = maps_of bundle h.rules h.selectors h.tests h.properties h.numbers (five_of n) zoom entity
 
   abbrev pub layer_numbered : ℕ → Bytes
   layer_numbered s = layer_name (selector_in bundle h.selectors h.tests h.numbers s)
 
   -- what it answers, with values for numbers
-  abbrev pub maps_answered : PropertyMaps × List ℕ → Answer Value
+  abbrev pub maps_answered : Result ℕ Refusal × List ℕ → Answer Value
   maps_answered x = map_answer value_numbered (answer_held (name_at bundle h.properties) layer_numbered x)
 
   abbrev pub layers_shown : List ℕ → ℕ → Layers Value
@@ -53,7 +51,7 @@ module _ (bundle : Bytes) (n : Counts) (h : Held) where
 abbrev pub MapsOfSheet : Type 0
 MapsOfSheet =
     (bundle : Bytes) (l : Lengths) (n : Counts) (h : Held) (s : Loads bundle l n h) (zoom : ℕ) (entity : Bytes) (e : EntityRange)
-    → single_of entity ≡ OneEntity e
+    → single_of entity ≡ Ok e
     → maps_answered bundle n h (maps_call bundle n h zoom entity)
     ≡ property_maps zoom (value_of entity e) (rules_of_reading digits_for s.js)
 
@@ -63,6 +61,6 @@ abbrev pub CascadeOfSheet : Type 0
 CascadeOfSheet =
     (bundle : Bytes) (l : Lengths) (n : Counts) (h : Held) (s : Loads bundle l n h) (zoom : ℕ) (entity : Bytes) (e : EntityRange)
     (k : ℕ) (t : List ℕ)
-    → single_of entity ≡ OneEntity e
-    → maps_call bundle n h zoom entity ≡ (Maps k, t)
+    → single_of entity ≡ Ok e
+    → maps_call bundle n h zoom entity ≡ (Ok k, t)
     → Meaning zoom (value_of entity e) (rules_of_reading digits_for s.js) (layers_shown bundle n h t k)

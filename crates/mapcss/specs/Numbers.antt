@@ -1,21 +1,16 @@
 -- Which numbers the refusals of each call can have, whatever tables, counts, bundles and bytes it is handed.
-use Rattle.std.specs.Prelude.{ℕ, ◌≡◌, List, [], ◌∷◌, ◌++◌, Float}
+use Rattle.std.specs.Prelude.{ℕ, ◌≡◌, List, [], ◌∷◌, ◌++◌, Float, Err}
 use Rattle.base.specs.Bytes.{Bytes}
 use Rattle.base.specs.declared.refusal.Refusal.{Refusal}
 use Rattle.keep.specs.Encode.{Lengths}
 use Rattle.parser.specs.Load.{Held, load_of}
-use Rattle.parser.specs.declared.Loaded.TheVariants.{NotLoaded}
 use Rattle.valid.specs.declared.Counts.{Counts}
 use Rattle.walk.specs.Maps.{maps_of}
-use Rattle.walk.specs.declared.PropertyMaps.TheVariants.{NoMaps}
 use Rattle.style.specs.declared.Settings.{Settings}
 use Rattle.style.specs.declared.StyleType.{StyleType}
 use Rattle.styles.specs.Styles.{styles_of}
-use Rattle.styles.specs.declared.Styled.TheVariants.{NoStyles}
 use Rattle.canvas.specs.Canvas.{canvas_of}
-use Rattle.canvas.specs.declared.CanvasColor.TheVariants.{NotJudged}
 use Rattle.drawing.specs.Lists.{nodes_of, areas_of}
-use Rattle.drawing.specs.declared.DrawList.TheVariants.{NoList}
 
 -- membership in a list
 pub data OneOf : List ℕ → ℕ → Type 0 where
@@ -42,7 +37,7 @@ canvas_numbers = 22 ∷ []
 abbrev pub LoadNumbers : Type 0
 LoadNumbers =
     (bundle : Bytes) (l : Lengths) (e : Refusal) (h : Held)
-    → load_of bundle l ≡ (NotLoaded e, h)
+    → load_of bundle l ≡ (Err e, h)
     → OneOf load_numbers e.number
 
 -- So are the property maps of an entity,
@@ -50,7 +45,7 @@ abbrev pub MapsNumbers : Type 0
 MapsNumbers =
     (bundle : Bytes) (rules selectors tests properties : List ℕ) (numbers : List Float) (n : Counts) (zoom : ℕ) (entity : Bytes)
     (e : Refusal) (t : List ℕ)
-    → maps_of bundle rules selectors tests properties numbers n zoom entity ≡ (NoMaps e, t)
+    → maps_of bundle rules selectors tests properties numbers n zoom entity ≡ (Err e, t)
     → OneOf entity_numbers e.number
 
 -- its styles,
@@ -58,7 +53,7 @@ abbrev pub StylesNumbers : Type 0
 StylesNumbers =
     (bundle : Bytes) (rules selectors tests properties : List ℕ) (numbers : List Float) (n : Counts) (zoom : ℕ) (s : Settings)
     (entity : Bytes) (e : Refusal)
-    → (styles_of bundle rules selectors tests properties numbers n zoom s entity).answer ≡ NoStyles e
+    → (styles_of bundle rules selectors tests properties numbers n zoom s entity).answer ≡ Err e
     → OneOf entity_numbers e.number
 
 -- a drawing list of nodes,
@@ -66,7 +61,7 @@ abbrev pub NodesNumbers : Type 0
 NodesNumbers =
     (bundle : Bytes) (rules selectors tests properties : List ℕ) (numbers : List Float) (n : Counts) (zoom : ℕ) (s : Settings) (len : ℕ)
     (nodes : Bytes) (e : Refusal) (words : List ℕ)
-    → nodes_of bundle rules selectors tests properties numbers n zoom s len nodes ≡ (NoList e, words)
+    → nodes_of bundle rules selectors tests properties numbers n zoom s len nodes ≡ (Err e, words)
     → OneOf list_numbers e.number
 
 -- one of areas,
@@ -74,12 +69,12 @@ abbrev pub AreasNumbers : Type 0
 AreasNumbers =
     (bundle : Bytes) (rules selectors tests properties : List ℕ) (numbers : List Float) (n : Counts) (zoom : ℕ) (s : Settings) (len : ℕ)
     (ways multipolygons : Bytes) (e : Refusal) (words : List ℕ)
-    → areas_of bundle rules selectors tests properties numbers n zoom s len ways multipolygons ≡ (NoList e, words)
+    → areas_of bundle rules selectors tests properties numbers n zoom s len ways multipolygons ≡ (Err e, words)
     → OneOf list_numbers e.number
 
 -- and the canvas colour.
 abbrev pub CanvasNumbers : Type 0
 CanvasNumbers =
     (bundle : Bytes) (rules selectors tests properties : List ℕ) (numbers : List Float) (n : Counts) (t : StyleType) (e : Refusal)
-    → canvas_of bundle rules selectors tests properties numbers n t ≡ NotJudged e
+    → canvas_of bundle rules selectors tests properties numbers n t ≡ Err e
     → OneOf canvas_numbers e.number

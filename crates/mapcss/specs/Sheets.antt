@@ -1,9 +1,8 @@
 -- Sheets as characters: the texts of a bundle that the two grammars have, and what they read as.
-use Rattle.std.specs.Prelude.{ℕ, ◌≡◌, List, [], ◌∷◌}
+use Rattle.std.specs.Prelude.{ℕ, ◌≡◌, List, [], ◌∷◌, Some}
 use Rattle.base.specs.Bytes.{Bytes}
 use Rattle.base.specs.declared.Range.{Range}
 use Rattle.bundle.specs.Bundle.{find_of}
-use Rattle.bundle.specs.declared.FoundText.TheVariants.{Text}
 use Rattle.token_kind.specs.declared.Token.{Token}
 use Rattle.lexical.specs.Lexical.{IsBlank}
 use Rattle.lexical.specs.Lexed.{characters_at, Lexed}
@@ -29,7 +28,7 @@ module _ (bundle : Bytes) where
 
   -- the bundle's text of this name has these tokens
   abbrev pub HasText : Bytes → List Token' → Type 0
-  HasText name q = (k : ℕ) × ((r : Range) × ((find_of bundle name ≡ Text k r) × HasTokens (source k r) 0 q))
+  HasText name q = (k : ℕ) × ((r : Range) × ((find_of bundle name ≡ Some (k, r)) × HasTokens (source k r) 0 q))
 
   -- The sheet of a bundle, its text 0, is the grammar's, and js is its reading. At most eight imports lead to a text.
   abbrev pub ReadsAs : Reading → Type 0

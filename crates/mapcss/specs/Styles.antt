@@ -1,11 +1,10 @@
 -- What holds of the styles of every entity beside every loaded sheet: for every bundle, every six lengths of the tables, every zoom,
 -- all settings and every entity, which may be any bytes.
-use Rattle.std.specs.Prelude.{ℕ, ◌≡◌, List, map, take}
+use Rattle.std.specs.Prelude.{ℕ, ◌≡◌, List, map, take, Ok}
 use Rattle.base.specs.Bytes.{Bytes}
 use Rattle.base.specs.Map.{Map}
 use Rattle.entity.specs.Layout.{single_of, value_of}
 use Rattle.entity.specs.declared.EntityRange.{EntityRange}
-use Rattle.entity.specs.declared.SingleEntity.TheVariants.{OneEntity}
 use Rattle.sheet.specs.Digits.{digits_for}
 use Rattle.cascade.specs.Style as theory
 use Rattle.cascade.specs.Walk.{property_maps}
@@ -41,6 +40,6 @@ abbrev pub StylesOfSheet : Type 0
 StylesOfSheet =
     (bundle : Bytes) (l : Lengths) (n : Counts) (h : Held) (r : Loads bundle l n h) (zoom : ℕ) (s : Settings) (entity : Bytes)
     (e : EntityRange)
-    → single_of entity ≡ OneEntity e
+    → single_of entity ≡ Ok e
     → styles_answered bundle n h (styles_call bundle n h zoom s entity)
     ≡ styling_of (settings_shown s) (value_of entity e) (property_maps zoom (value_of entity e) (rules_of_reading digits_for r.js))

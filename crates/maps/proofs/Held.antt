@@ -14,11 +14,8 @@ use Rattle.base.specs.Entity.{Entity}
 use Rattle.base.specs.Refusal.{refusal, of_entity}
 use Rattle.base.specs.Table.{padded}
 use Rattle.base.specs.declared.refusal.Refusal.{Refusal}
-use Rattle.entity.specs.Elim.{on-SingleEntity}
 use Rattle.entity.specs.Layout.{single_of, value_of}
 use Rattle.entity.specs.declared.EntityRange.{EntityRange}
-use Rattle.entity.specs.declared.SingleEntity.{SingleEntity}
-use Rattle.entity.specs.declared.SingleEntity.TheVariants.{BadEntity, OneEntity}
 use Rattle.sheet.specs.Sheet.{Rule, Selector}
 use Rattle.table.specs.Value.{word_at, range_at}
 use Rattle.cascade.specs.Clause.{layer_name, clause, clauses}
@@ -30,13 +27,13 @@ use Rattle.valid.specs.declared.Counts.{Counts}
 use Rattle.decode.specs.Decode.{places, places_in, selector_in, name_at, numbered_at}
 use Rattle.walk.specs.Run.{Run, stop, going, bind, rule_of, rules_of}
 use Rattle.walk.specs.Maps.{no_rows, refused_maps, finish, walk_of, maps_of}
-use Rattle.walk.specs.declared.PropertyMaps.{PropertyMaps}
-use Rattle.walk.specs.declared.PropertyMaps.TheVariants.{NoMaps, Maps}
 use Rattle.maps.specs.Held.{rows_at, answer_held, MapsAre, WalkIs, FewLayers, RefusalNamed, ZeroBehind, RefusalZeroes}
 use Rattle.walk.proofs.WalkLaws.{rules_few}
 use Rattle.maps.proofs.Book.{Book, rows_of, encode, Slim, spell, Fine, Means, stops, goes}
 use Rattle.maps.proofs.Encode.{rows_length, layers_back, rows_back}
 use Rattle.maps.proofs.Meaning.{means_bind, means_selectors}
+use Rattle.std.specs.Prelude.{Result, Ok, Err}
+use Rattle.base.specs.Option.{on_result}
 
 -- ---- the table at the end
 
@@ -50,15 +47,15 @@ answered true i name layer r a (stops k) = refl
 answered mp i name layer r a (goes b f) = ap layers (layers_back name layer [] b f.thin)
 
 abbrev Answered : Type 0
-Answered = PropertyMaps × List ℕ
+Answered = Result ℕ Refusal × List ℕ
 
-no_maps : {A : Type 0} (e : Refusal) (k : ℕ) → NoMaps e ≡ Maps k → A
+no_maps : {A : Type 0} (e : Refusal) (k : ℕ) → ◌≡◌ {A = Result ℕ Refusal} (Err e) (Ok k) → A
 no_maps e k p = let z : ◌≡◌ {A = ℕ} 0 1 = cc in absurd (omega arith)
 
 -- rows and zeros, if there are maps; zeros, if there are none
 record Ends (x : Answered) : Type 0 where
-  held : (k : ℕ) (t : List ℕ) → x ≡ (Maps k, t) → t ≡ padded 0 4323 (rows_at t (places 0 k))
-  blank : (e : Refusal) (t : List ℕ) → x ≡ (NoMaps e, t) → t ≡ no_rows
+  held : (k : ℕ) (t : List ℕ) → x ≡ (Ok k, t) → t ≡ padded 0 4323 (rows_at t (places 0 k))
+  blank : (e : Refusal) (t : List ℕ) → x ≡ (Err e, t) → t ≡ no_rows
 
 ends_refused : (e : Refusal) → Ends (refused_maps e)
 ends_refused e =
@@ -71,11 +68,11 @@ encoded : (b : Book) → Slim b → encode b ≡ padded 0 4323 (rows_at (encode 
 unfolding encode
 encoded b s = ap (λ n. rows_of b ++ replicate (4323 - n) 0) (sym (rows_length b s)) ∙ ap (padded 0 4323) (sym (rows_back [] b s))
 
-ends_maps : (b : Book) → Slim b → Ends (Maps (length b), encode b)
+ends_maps : (b : Book) → Slim b → Ends (Ok (length b), encode b)
 ends_maps b s =
     record {
       held = λ k t p.
-          let q : Maps (length b) ≡ Maps k = ap (λ (x : Answered). x.0) p in
+          let q : ◌≡◌ {A = Result ℕ Refusal} (Ok (length b)) (Ok k) = ap (λ (x : Answered). x.0) p in
           let n : length b ≡ k = cc in
           subst (λ (t : List ℕ). t ≡ padded 0 4323 (rows_at t (places 0 k))) (ap (λ (x : Answered). x.1) p)
           (subst (λ k. encode b ≡ padded 0 4323 (rows_at (encode b) (places 0 k))) n (encoded b s));
@@ -91,12 +88,12 @@ ends_finish mp i name layer r a (stops k) = ends_refused (of_entity k mp i)
 ends_finish mp i name layer r a (goes b f) = ends_maps b f.thin
 
 ends_single :
-    (s : SingleEntity) (f : EntityRange → Answered)
+    (s : Result EntityRange Refusal) (f : EntityRange → Answered)
     → ((e : EntityRange) → Ends (f e))
-    → Ends (on-SingleEntity s refused_maps f)
-unfolding on-SingleEntity
-ends_single (BadEntity e) f h = ends_refused e
-ends_single (OneEntity e) f h = h e
+    → Ends (on_result s refused_maps f)
+unfolding on_result
+ends_single (Err e) f h = ends_refused e
+ends_single (Ok e) f h = h e
 
 -- ---- the walk over the rules of the tables
 
@@ -155,19 +152,19 @@ ends bundle rules selectors tests properties numbers n zoom entity =
     ends_finish false 0 _ _ _ _ (means_all bundle rules selectors tests properties numbers zoom (value_of entity e) n.rules))))
     (λ t. ends_refused (refusal 22 0 0 0 0))
 
-few_refused : (e : Refusal) (k : ℕ) (t : List ℕ) → refused_maps e ≡ (Maps k, t) → k ≤ 32
+few_refused : (e : Refusal) (k : ℕ) (t : List ℕ) → refused_maps e ≡ (Ok k, t) → k ≤ 32
 few_refused e k t p = no_maps e k (ap (λ (x : Answered). x.0) p)
 
 few_finish :
     (mp : Bool) (i : ℕ) (name layer : ℕ → Bytes) (r : Run) (a : Answer ℕ)
     → Means name layer r a
     → (k : ℕ) (t : List ℕ)
-    → finish mp i r ≡ (Maps k, t)
+    → finish mp i r ≡ (Ok k, t)
     → k ≤ 32
 unfolding finish
 few_finish mp i name layer r a (stops n) k t p = few_refused (of_entity n mp i) k t p
 few_finish mp i name layer r a (goes b f) k t p =
-    let q : Maps (length b) ≡ Maps k = ap (λ (x : Answered). x.0) p in
+    let q : ◌≡◌ {A = Result ℕ Refusal} (Ok (length b)) (Ok k) = ap (λ (x : Answered). x.0) p in
     let n : length b ≡ k = cc in
     let h = f.few in
     omega arith
@@ -175,7 +172,7 @@ few_finish mp i name layer r a (goes b f) k t p =
 pub few_layers : FewLayers
 unfolding walk_of
 few_layers bundle rules selectors tests properties numbers total zoom entity e mp i k t =
-    pick_split (λ (x : Answered). x ≡ (Maps k, t) → k ≤ 32) (ltb 16384 total) _ _
+    pick_split (λ (x : Answered). x ≡ (Ok k, t) → k ≤ 32) (ltb 16384 total) _ _
     (λ m. few_refused (refusal 22 0 0 0 0) k t)
     (λ m. few_finish mp i _ _ _ _ (means_all bundle rules selectors tests properties numbers zoom (value_of entity e) total) k t)
 
@@ -185,11 +182,11 @@ of_number k false i = refl
 
 named_finish :
     (mp : Bool) (i : ℕ) (x : Run) (r : Refusal) (t : List ℕ)
-    → finish mp i x ≡ (NoMaps r, t)
+    → finish mp i x ≡ (Err r, t)
     → r ≡ of_entity r.number mp i
 unfolding finish
 named_finish mp i (stop k) r t p =
-    let q : NoMaps (of_entity k mp i) ≡ NoMaps r = ap (λ (x : Answered). x.0) p in
+    let q : ◌≡◌ {A = Result ℕ Refusal} (Err (of_entity k mp i)) (Err r) = ap (λ (x : Answered). x.0) p in
     let n : of_entity k mp i ≡ r = cc in
     subst (λ (r : Refusal). r ≡ of_entity r.number mp i) n (of_number k mp i)
 named_finish mp i (going n u) r t p = no_maps r n (sym (ap (λ (x : Answered). x.0) p))
@@ -206,7 +203,7 @@ walk_is bundle rules selectors tests properties numbers total zoom entity e mp i
     (answered mp i _ _ _ _ (means_all bundle rules selectors tests properties numbers zoom (value_of entity e) total))
 
 pub maps_are : MapsAre
-unfolding maps_of pick on-SingleEntity
+unfolding maps_of pick on_result
 maps_are bundle rules selectors tests properties numbers n zoom entity e sound one =
     rw (sound, one)
     (walk_is bundle rules selectors tests properties numbers n.rules zoom entity e false 0

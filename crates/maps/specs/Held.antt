@@ -1,12 +1,11 @@
 -- The layers that a table of property maps holds, and what they are in the theory.
-use Rattle.std.specs.Prelude.{ℕ, ◌+◌, ◌*◌, ◌≤◌, Bool, true, List, [], ◌∷◌, ◌++◌, map, ◌≡◌, Float, get_or, take, drop, length}
+use Rattle.std.specs.Prelude.{ℕ, ◌+◌, ◌*◌, ◌≤◌, Bool, true, List, [], ◌∷◌, ◌++◌, map, ◌≡◌, Float, get_or, take, drop, length, Result, Ok, Err}
 use Rattle.base.specs.Bytes.{Bytes}
 use Rattle.base.specs.Map.{Entry, entry}
 use Rattle.base.specs.Refusal.{of_entity}
 use Rattle.base.specs.declared.refusal.Refusal.{Refusal}
 use Rattle.entity.specs.Layout.{single_of, value_of}
 use Rattle.entity.specs.declared.EntityRange.{EntityRange}
-use Rattle.entity.specs.declared.SingleEntity.TheVariants.{OneEntity}
 use Rattle.base.specs.Table.{padded}
 use Rattle.cascade.specs.Cascade.{Layers}
 use Rattle.cascade.specs.Clause.{layer_name}
@@ -17,8 +16,6 @@ use Rattle.valid.specs.declared.Counts.{Counts}
 use Rattle.decode.specs.Decode.{places, selector_in, name_at, numbered_at}
 use Rattle.walk.specs.Maps.{no_rows, walk_of, maps_of}
 use Rattle.walk.specs.Rows.{numbers_at}
-use Rattle.walk.specs.declared.PropertyMaps.{PropertyMaps}
-use Rattle.walk.specs.declared.PropertyMaps.TheVariants.{NoMaps, Maps}
 
 -- the words of layer i: the selector that named it, the count and the numbers of its properties, and zeros
 abbrev pub row_at : List ℕ → ℕ → List ℕ
@@ -36,16 +33,16 @@ module _ (name layer : ℕ → Bytes) where
   abbrev pub layers_held : List ℕ → ℕ → Layers ℕ
   layers_held t n = map (layer_held t) (places 0 n)
 
-  abbrev pub answer_held : PropertyMaps × List ℕ → Answer ℕ
-  answer_held (NoMaps e, t) = refused e.number
-  answer_held (Maps n, t) = layers (layers_held t n)
+  abbrev pub answer_held : Result ℕ Refusal × List ℕ → Answer ℕ
+  answer_held (Err e, t) = refused e.number
+  answer_held (Ok n, t) = layers (layers_held t n)
 
 -- For tables and an entity that pass their checks the maps are those of the theory's walk ..
 abbrev pub MapsAre : Type 0
 MapsAre =
     (bundle : Bytes) (rules selectors tests properties : List ℕ) (numbers : List Float) (n : Counts) (zoom : ℕ) (entity : Bytes) (e : EntityRange)
     → tables_sound rules selectors tests properties numbers n (length bundle) ≡ true
-    → single_of entity ≡ OneEntity e
+    → single_of entity ≡ Ok e
     → answer_held (name_at bundle properties) (λ s. layer_name (selector_in bundle selectors tests numbers s))
     (maps_of bundle rules selectors tests properties numbers n zoom entity)
     ≡ property_maps zoom (value_of entity e) (map (numbered_at bundle rules selectors tests properties numbers) (places 0 n.rules))
@@ -65,7 +62,7 @@ abbrev pub FewLayers : Type 0
 FewLayers =
     (bundle : Bytes) (rules selectors tests properties : List ℕ) (numbers : List Float) (total zoom : ℕ) (entity : Bytes) (e : EntityRange)
     (multipolygons : Bool) (place k : ℕ) (t : List ℕ)
-    → walk_of bundle rules selectors tests properties numbers total zoom entity e multipolygons place ≡ (Maps k, t)
+    → walk_of bundle rules selectors tests properties numbers total zoom entity e multipolygons place ≡ (Ok k, t)
     → k ≤ 32
 
 -- .. a refusal names the entity's place ..
@@ -74,18 +71,18 @@ RefusalNamed =
     (bundle : Bytes) (rules selectors tests properties : List ℕ) (numbers : List Float) (total zoom : ℕ) (entity : Bytes) (e : EntityRange)
     (multipolygons : Bool) (place : ℕ) (r : Refusal) (t : List ℕ)
     → total ≤ 16384
-    → walk_of bundle rules selectors tests properties numbers total zoom entity e multipolygons place ≡ (NoMaps r, t)
+    → walk_of bundle rules selectors tests properties numbers total zoom entity e multipolygons place ≡ (Err r, t)
     → r ≡ of_entity r.number multipolygons place
 
 -- .. and the table is the rows of its layers, with zeros behind them; it is all zero after a refusal.
 abbrev pub ZeroBehind : Type 0
 ZeroBehind =
     (bundle : Bytes) (rules selectors tests properties : List ℕ) (numbers : List Float) (n : Counts) (zoom : ℕ) (entity : Bytes) (k : ℕ) (t : List ℕ)
-    → maps_of bundle rules selectors tests properties numbers n zoom entity ≡ (Maps k, t)
+    → maps_of bundle rules selectors tests properties numbers n zoom entity ≡ (Ok k, t)
     → t ≡ padded 0 4323 (rows_at t (places 0 k))
 
 abbrev pub RefusalZeroes : Type 0
 RefusalZeroes =
     (bundle : Bytes) (rules selectors tests properties : List ℕ) (numbers : List Float) (n : Counts) (zoom : ℕ) (entity : Bytes) (e : Refusal) (t : List ℕ)
-    → maps_of bundle rules selectors tests properties numbers n zoom entity ≡ (NoMaps e, t)
+    → maps_of bundle rules selectors tests properties numbers n zoom entity ≡ (Err e, t)
     → t ≡ no_rows

@@ -1,5 +1,5 @@
 -- A sheet alone in its bundle, and what its load answers and leaves in small tables.
-use Rattle.std.specs.Prelude.{ℕ, ◌≡◌, List, [], ◌∷◌, ◌++◌}
+use Rattle.std.specs.Prelude.{ℕ, ◌≡◌, List, [], ◌∷◌, ◌++◌, Result, Err}
 use Rattle.base.specs.Bytes.{Bytes, ascii}
 use Rattle.base.specs.Map.{entry}
 use Rattle.base.specs.Refusal.{refusal}
@@ -8,12 +8,11 @@ use Rattle.bundle.specs.Bundle.{bundle_bytes}
 use Rattle.keep.specs.Encode.{Lengths, lengths}
 use Rattle.parser.specs.Load.{Held, held, zeros, load_of}
 use Rattle.parser.specs.declared.Counts.{Counts}
-use Rattle.parser.specs.declared.Loaded.{Loaded}
-use Rattle.parser.specs.declared.Loaded.TheVariants.{NotLoaded, Sheet}
+use Rattle.base.specs.declared.refusal.Refusal.{Refusal}
 
 pub record Case : Type 0 where
   pub sheet : Bytes
-  pub answer : Loaded
+  pub answer : Result Counts Refusal
   pub tables : Held
 
 -- room for one entry in each table
@@ -22,7 +21,7 @@ small = lengths 8 8 8 8 1 8
 
 abbrev pub refuses : Bytes → ℕ → ℕ → ℕ → ℕ → Case
 refuses s number reason line character =
-    record { sheet = s; answer = NotLoaded (refusal number reason 0 line character); tables = zeros small }
+    record { sheet = s; answer = Err (refusal number reason 0 line character); tables = zeros small }
 
 abbrev pub counts : ℕ → ℕ → ℕ → ℕ → ℕ → ℕ → Counts
 counts a b c d e f = record { rules = a; selectors = b; tests = c; properties = d; numbers = e; colors = f }

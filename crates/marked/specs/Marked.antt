@@ -1,6 +1,6 @@
 -- The twelve marked cases of the paper, in one table: what the tokens of a text are, what a load answers and leaves, how many layers an
 -- open way gets.
-use Rattle.std.specs.Prelude.{ℕ, ◌≡◌, List, [], ◌∷◌}
+use Rattle.std.specs.Prelude.{ℕ, ◌≡◌, List, [], ◌∷◌, Ok}
 use Rattle.std.specs.Float.{binary64}
 use Rattle.std.specs.Float.Ieee.{of_bits}
 use Rattle.base.specs.Bytes.{Bytes, ascii}
@@ -11,7 +11,6 @@ use Rattle.token_kind.specs.declared.Token.{Token}
 use Rattle.token_kind.specs.declared.Token.TheVariants.{Identifier, Number, Color}
 use Rattle.token_laws.specs.Tokens.{Tokens, listed, token_at, tokens}
 use Rattle.parser.specs.Load.{held, zeros}
-use Rattle.parser.specs.declared.Loaded.TheVariants.{Sheet}
 use Rattle.marked.specs.Cases.{Case, Holds, small, refuses, counts, eval_sheet}
 use Rattle.marked.specs.Meetings.{Meeting, meeting, Gets, tagged}
 
@@ -54,7 +53,7 @@ marks =
     ∷ loads
     (record {
       sheet = eval_sheet;
-      answer = Sheet (counts 1 1 0 1 1 0);
+      answer = Ok (counts 1 1 0 1 1 0);
       tables =
           held (1 ∷ 0 ∷ 1 ∷ 0 ∷ 1 ∷ 0 ∷ 0 ∷ 0 ∷ []) (5 ∷ 0 ∷ 0 ∷ 0 ∷ 0 ∷ 0 ∷ 0 ∷ 0 ∷ []) (0 ∷ 0 ∷ 0 ∷ 0 ∷ 0 ∷ 0 ∷ 0 ∷ 0 ∷ [])
           (6 ∷ 8 ∷ 20 ∷ 0 ∷ 0 ∷ 0 ∷ 0 ∷ 0 ∷ []) (zero_float ∷ []) (0 ∷ 0 ∷ 0 ∷ 0 ∷ 0 ∷ 0 ∷ 0 ∷ 0 ∷ []);
@@ -66,7 +65,7 @@ marks =
     ∷ gets (meeting (ascii "way|z13-{}") 13 [] 1)
     ∷ gets (meeting (ascii "way|z13-{}") 12 [] 0)
     -- 12
-    ∷ loads (record { sheet = []; answer = Sheet (counts 0 0 0 0 0 0); tables = zeros small })
+    ∷ loads (record { sheet = []; answer = Ok (counts 0 0 0 0 0 0); tables = zeros small })
     ∷ []
 
 -- the lone statement: every row is true

@@ -1,19 +1,19 @@
 -- For each production that readers of MapCSS may stumble on: three sheets that are loaded, and three near misses that are not.
-use Rattle.std.specs.Prelude.{◌≡◌, Bool, true, false, List, [], ◌∷◌, ◌++◌}
+use Rattle.std.specs.Prelude.{◌≡◌, Bool, true, false, List, [], ◌∷◌, ◌++◌, Result, Ok, Err}
 use Rattle.base.specs.Bytes.{Bytes, ascii}
 use Rattle.keep.specs.Encode.{Lengths, lengths}
 use Rattle.parser.specs.Load.{load_of}
-use Rattle.parser.specs.declared.Loaded.{Loaded}
-use Rattle.parser.specs.declared.Loaded.TheVariants.{NotLoaded, Sheet}
 use Rattle.marked.specs.Cases.{alone}
+use Rattle.base.specs.declared.refusal.Refusal.{Refusal}
+use Rattle.parser.specs.declared.Counts.{Counts}
 
 -- room for four entries in each table
 abbrev pub roomy : Lengths
 roomy = lengths 32 32 32 32 4 32
 
-abbrev pub is_sheet : Loaded → Bool
-is_sheet (NotLoaded e) = false
-is_sheet (Sheet n) = true
+abbrev pub is_sheet : Result Counts Refusal → Bool
+is_sheet (Err e) = false
+is_sheet (Ok n) = true
 
 abbrev pub loads : Bytes → Bool
 loads s = is_sheet (load_of (alone s) roomy).0

@@ -3,7 +3,7 @@ use Prim.Native.Nat.{ℕ}
 use mathlib.Core.Path.{◌≡◌, refl, sym, ◌∙◌, ap, subst}
 use mathlib.Core.Bool.{Bool, true, false, not}
 use mathlib.Core.List.{List, [], ◌∷◌, ◌++◌, append_assoc}
-use mathlib.Core.Option.{Option, none, some}
+use mathlib.Core.Option.{Option as Option', none, some}
 use lib.Dec.{eqb}
 use lib.Ieee.{Float}
 use lib.ListN.{get_or}
@@ -20,18 +20,17 @@ use Rattle.sheet.specs.Sheet.{NumericTest, Test, numeric}
 use Rattle.table.specs.Value.{word_at, range_at}
 use Rattle.cascade.specs.Number.{reads, malformed, out_of_range, tag_number, TagNumber as Number}
 use Rattle.cascade.specs.Match.{tag, of_bool, present, true_value, unary_holds, equals, text_holds, compares, number_verdict, numeric_verdict, test_key, test_verdict, verdict_on}
-use Rattle.reader.specs.Elim.{on-TagValue}
 use Rattle.tag_number.specs.Elim.{on-TagNumber}
 use Rattle.reader.specs.Tags.{value_in}
 use Rattle.tag_number.specs.Told.{told}
 use Rattle.tag_number.specs.declared.TagNumber.{TagNumber}
-use Rattle.reader.specs.declared.TagValue.{TagValue}
-use Rattle.reader.specs.declared.TagValue.TheVariants.{Absent, Value}
 use Rattle.reader.proofs.Lookup.{tag_value}
 use Rattle.decode.specs.Decode.{key_at, test_at}
 use Rattle.matching.specs.Matching.{fit_of, comparison_of, absent_of}
 use Rattle.matching.specs.declared.Fit.{Fit}
 use Rattle.matching.specs.declared.Fit.TheVariants.{Out, Misses, Fits}
+use Rattle.std.specs.Prelude.{Option, Some, None}
+use Rattle.base.specs.Option.{on_option}
 
 abbrev pub Not : ℕ → ℕ → Type 0
 Not k n = k ≡ n → ⊥
@@ -67,7 +66,7 @@ module _ (c : NumericTest) (y : Float) where
 
 -- the key of a test, of one part or two, and the tag that has it
 module _ (bundle : Bytes) (t : List ℕ) (s : Bytes) (ps : List Ranges) (i w : ℕ) (p : w ≡ word_at t i 3) where
-  module _ (a : Range) (x : Bytes) (v : TagValue) (e : a ≡ range_at t i 1) (q : x ≡ within a bundle) where
+  module _ (a : Range) (x : Bytes) (v : Option Range) (e : a ≡ range_at t i 1) (q : x ≡ within a bundle) where
     first_is : x ≡ within (range_at t i 1) bundle
     first_is = q ∙ ap (λ r. within r bundle) e
 
@@ -221,28 +220,28 @@ module _ (bundle : Bytes) (t : List ℕ) (xs : List Float) (i : ℕ) where
     value_number y r h e q = rw (numeric_is (subst Numeric p h), ← p, ← e) q
 
   -- on the tag that it names
-  module _ (s : Bytes) (e : EntityRange) (v : TagValue) (g : v ≡ value_in s key (pairs_at e.count s e.tags)) (r : Fit) where
+  module _ (s : Bytes) (e : EntityRange) (v : Option Range) (g : v ≡ value_in s key (pairs_at e.count s e.tags)) (r : Fit) where
     abbrev test_fit : Fit
     test_fit = fit_of (verdict_on (value_of s e) (test_at bundle t xs i))
 
-    abbrev read : TagValue → Option Bytes
-    read z = on-TagValue z none (λ a. some (within a s))
+    abbrev read : Option Range → Option' Bytes
+    read z = on_option z none (λ a. some (within a s))
 
-    tag_is : (d : TagValue) → v ≡ d → fit_of (test_verdict (test_at bundle t xs i) (read d)) ≡ test_fit
+    tag_is : (d : Option Range) → v ≡ d → fit_of (test_verdict (test_at bundle t xs i) (read d)) ≡ test_fit
     tag_is d h =
         ap (λ o. fit_of (test_verdict (test_at bundle t xs i) o))
         (sym (ap (tag (value_of s e)) test_key_lem ∙ tag_value s key e ∙ ap read (sym g ∙ h)))
 
-    pub test_absent : v ≡ Absent → (k : ℕ) → k ≡ word_at t i 0 → r ≡ absent_of k → r ≡ test_fit
-    unfolding on-TagValue
-    test_absent h k p q = q ∙ ap absent_of p ∙ absent_is ∙ tag_is Absent h
+    pub test_absent : v ≡ None → (k : ℕ) → k ≡ word_at t i 0 → r ≡ absent_of k → r ≡ test_fit
+    unfolding on_option
+    test_absent h k p q = q ∙ ap absent_of p ∙ absent_is ∙ tag_is None h
 
     pub test_value_lem :
         (a : Range)
-        → v ≡ Value a
+        → v ≡ Some a
         → (x : Bytes)
         → x ≡ within a s
         → r ≡ fit_of (test_verdict (test_at bundle t xs i) (some x))
         → r ≡ test_fit
-    unfolding on-TagValue
-    test_value_lem a h x f q = q ∙ ap (λ z. fit_of (test_verdict (test_at bundle t xs i) (some z))) f ∙ tag_is (Value a) h
+    unfolding on_option
+    test_value_lem a h x f q = q ∙ ap (λ z. fit_of (test_verdict (test_at bundle t xs i) (some z))) f ∙ tag_is (Some a) h

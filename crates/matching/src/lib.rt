@@ -15,7 +15,6 @@ ghost use Rattle.matching.specs.Matching.{fit_of, comparison_of, absent_of};
 
 use base::Range;
 use entity::EntityRange;
-use reader::TagValue;
 use tag_number::TagNumber;
 
 // The answer to one selector or test; Out is a reached numeric test on a tag number outside the exact range.
@@ -117,13 +116,13 @@ fn test_fits(
     ensures { result ≡ fit_of (verdict_on (value_of entity.now e) (test_at bundle.now tests.now numbers.now i)) }
 {
     match tag_of(bundle, tests, entity, e, i) {
-        TagValue::Absent => absent_fits(table::word_of(tests, i, 0)),
-        TagValue::Value(v) => value_fits(bundle, tests, numbers, i, base::part(entity, v)),
+        None => absent_fits(table::word_of(tests, i, 0)),
+        Some(v) => value_fits(bundle, tests, numbers, i, base::part(entity, v)),
     }
 }
 
 // The value of the tag that test i names.
-fn tag_of(bundle: &[u8], tests: &[u32], entity: &[u8], e: EntityRange, i: usize) -> TagValue
+fn tag_of(bundle: &[u8], tests: &[u32], entity: &[u8], e: EntityRange, i: usize) -> Option<Range>
     ensures { result ≡ value_in entity.now (key_at bundle.now tests.now i) (pairs_at e.count entity.now e.tags) }
 {
     let first = base::part(bundle, range_of(tests, i, 1));

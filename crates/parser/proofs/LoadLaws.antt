@@ -15,9 +15,6 @@ use Rattle.base.specs.declared.Range.{Range}
 use Rattle.base.specs.declared.refusal.Refusal.{Refusal}
 use Rattle.bundle.proofs.Check.{bundle_long}
 use Rattle.bundle.specs.Bundle.{is_bundle, check_of}
-use Rattle.bundle.specs.Elim.{on-Checked}
-use Rattle.bundle.specs.declared.Checked.{Checked}
-use Rattle.bundle.specs.declared.Checked.TheVariants.{BadBundle, Texts}
 use Rattle.grammar.specs.Accepted.{load_into}
 use Rattle.grammar.specs.Alike.{Alike, both_refused, both_read}
 use Rattle.grammar.specs.Capacity.{Tables, empty}
@@ -32,11 +29,10 @@ use Rattle.keep.specs.Source.{reading}
 use Rattle.input.specs.Source.{Spot, source}
 use Rattle.keep.specs.declared.Tally.{Tally}
 use Rattle.parser.specs.Load.{Held, held, zeros, held_in, counts_of, first_text, nothing_yet, sheet_at, loaded, load_of, BundleRead}
+use Rattle.parser.specs.declared.Counts.{Counts}
 use Rattle.sheets.specs.Sheets.{Parses, stopped, ended, SheetRead}
-use Rattle.parser.specs.declared.Loaded.{Loaded}
-use Rattle.parser.specs.declared.Loaded.TheVariants.{NotLoaded, Sheet}
-use Rattle.sheets.specs.declared.Parsed.{Parsed}
-use Rattle.sheets.specs.declared.Parsed.TheVariants.{Stopped, Ended}
+use Rattle.std.specs.Prelude.{Result, Ok, Err}
+use Rattle.base.specs.Option.{on_result}
 
 -- ---- six tables at once
 
@@ -60,13 +56,13 @@ blanked l rs ss ts ps xs cs e =
 
 -- ---- reading the bundle
 
-pub bad_read : (bundle : Bytes) (τ : Lent) (tables : Tally → Lent) {e : Refusal} → check_of bundle ≡ BadBundle e → BundleRead bundle τ tables (Stopped e)
+pub bad_read : (bundle : Bytes) (τ : Lent) (tables : Tally → Lent) {e : Refusal} → check_of bundle ≡ Err e → BundleRead bundle τ tables (Err e)
 bad_read bundle τ tables {e} p =
-    (λ x q. let z : e ≡ x = cc in ap Stopped z, λ k q. different cc)
+    (λ x q. let z : e ≡ x = cc in ap Err z, λ k q. different cc)
 
 pub texts_read :
-    (bundle : Bytes) (r : Range) (n : Tally) (rs ss ts ps : List ℕ) (xs : List Float) (cs : List ℕ) (tables : Tally → Lent) (p : Parsed) {count : ℕ}
-    → check_of bundle ≡ Texts count
+    (bundle : Bytes) (r : Range) (n : Tally) (rs ss ts ps : List ℕ) (xs : List Float) (cs : List ℕ) (tables : Tally → Lent) (p : Result Tally Refusal) {count : ℕ}
+    → check_of bundle ≡ Ok count
     → r ≡ first_text bundle
     → n ≡ nothing_yet
     → SheetRead bundle (source 0 r) 8 (lent n rs ss ts ps xs cs) tables p
@@ -80,11 +76,11 @@ texts_read bundle r n rs ss ts ps xs cs tables p q e f h = (
 
 -- ---- a bundle that passes its check is short
 
-no_layout : (bundle : Bytes) → false ≡ is_bundle bundle → BadBundle (refusal 1 0 0 0 0) ≡ check_of bundle
+no_layout : (bundle : Bytes) → false ≡ is_bundle bundle → Err (refusal 1 0 0 0 0) ≡ check_of bundle
 unfolding check_of
 no_layout bundle e = if_false (is_bundle bundle) _ _ (sym e) refl
 
-pub short_bundle : (bundle : Bytes) {count : ℕ} → check_of bundle ≡ Texts count → length bundle < 4294967296
+pub short_bundle : (bundle : Bytes) {count : ℕ} → check_of bundle ≡ Ok count → length bundle < 4294967296
 short_bundle bundle e =
     by-test (ltb 1048576 (length bundle))
     (λ y. let w = no_layout bundle (bundle_long bundle (ltb-true 1048576 (length bundle) y)) ∙ e in different cc)
@@ -94,65 +90,65 @@ short_bundle bundle e =
 
 stopped_alike :
     (bundle : Bytes) (l : Lengths) (tables : Tally → Lent) (e : Refusal) {a : Answer Reading Spot Lent Refusal} {b : Answer Reading Spot Tables Refusal}
-    → Parses tables (Stopped e) a
+    → Parses tables (Err e) a
     → Alike (Written bundle l) a b
-    → (NotLoaded e, zeros l) ≡ loaded l b
+    → (Err e, zeros l) ≡ loaded l b
 unfolding loaded
-stopped_alike bundle l tables e (stopped p) (both_refused w) = ap (λ e. (NotLoaded e, zeros l)) p
+stopped_alike bundle l tables e (stopped p) (both_refused w) = ap (λ e. (Err e, zeros l)) p
 
 ended_alike :
     (bundle : Bytes) (l : Lengths) (rs ss ts ps : List ℕ) (xs : List Float) (cs : List ℕ) (n : Tally) {a : Answer Reading Spot Lent Refusal} {b : Answer Reading Spot Tables Refusal}
-    → Parses (λ m. lent m rs ss ts ps xs cs) (Ended n) a
+    → Parses (λ m. lent m rs ss ts ps xs cs) (Ok n) a
     → Alike (Written bundle l) a b
-    → (Sheet (counts_of n), held rs ss ts ps xs cs) ≡ loaded l b
+    → (Ok (counts_of n), held rs ss ts ps xs cs) ≡ loaded l b
 unfolding loaded
-ended_alike bundle l rs ss ts ps xs cs n ended (both_read w) = ap (λ (τ : Lent). (Sheet (counts_of τ.tally), held_in τ)) w.is
+ended_alike bundle l rs ss ts ps xs cs n ended (both_read w) = ap (λ (τ : Lent). (Ok (counts_of τ.tally), held_in τ)) w.is
 
 module _ (bundle : Bytes) (l : Lengths) (rs ss ts ps : List ℕ) (xs : List Float) (cs : List ℕ) (z : held rs ss ts ps xs cs ≡ zeros l) where
   pub load_stopped :
-      (tables : Tally → Lent) (e : Refusal) {r : Parsed}
+      (tables : Tally → Lent) (e : Refusal) {r : Result Tally Refusal}
       → BundleRead bundle (lent nothing_yet rs ss ts ps xs cs) tables r
-      → r ≡ Stopped e
-      → (NotLoaded e, zeros l) ≡ load_of bundle l
-  unfolding load_of on-Checked
+      → r ≡ Err e
+      → (Err e, zeros l) ≡ load_of bundle l
+  unfolding load_of on_result
   load_stopped tables e {r} h q = go (check_of bundle) refl
     where
-      go : (x : Checked) → check_of bundle ≡ x → (NotLoaded e, zeros l) ≡ on-Checked x (λ e. (NotLoaded e, zeros l)) (λ count. loaded l (load_into (reading bundle) (capacities l) (sheet_at bundle)))
-      go (BadBundle x) w =
-          let y : r ≡ Stopped x = h.0 x w in
+      go : (x : Result ℕ Refusal) → check_of bundle ≡ x → (Err e, zeros l) ≡ on_result x (λ e. (Err e, zeros l)) (λ count. loaded l (load_into (reading bundle) (capacities l) (sheet_at bundle)))
+      go (Err x) w =
+          let y : r ≡ Err x = h.0 x w in
           let v : e ≡ x = cc in
-          ap (λ e. (NotLoaded e, zeros l)) v
-      go (Texts k) w =
+          ap (λ e. (Err e, zeros l)) v
+      go (Ok k) w =
           stopped_alike bundle l tables e
-          (subst (λ τ. Parses tables (Stopped e) (load (reading bundle) (sheet_at bundle) τ)) (blanked l rs ss ts ps xs cs z)
+          (subst (λ τ. Parses tables (Err e) (load (reading bundle) (sheet_at bundle) τ)) (blanked l rs ss ts ps xs cs z)
           (subst (λ r. Parses tables r (load (reading bundle) (sheet_at bundle) (lent nothing_yet rs ss ts ps xs cs))) q (h.1 k w)))
           (loaded_alike bundle l (short_bundle bundle w) (sheet_at bundle))
 
   pub load_ended :
-      (rs' ss' ts' ps' : List ℕ) (xs' : List Float) (cs' : List ℕ) (n : Tally) {r : Parsed}
+      (rs' ss' ts' ps' : List ℕ) (xs' : List Float) (cs' : List ℕ) (n : Tally) {r : Result Tally Refusal}
       → BundleRead bundle (lent nothing_yet rs ss ts ps xs cs) (λ m. lent m rs' ss' ts' ps' xs' cs') r
-      → r ≡ Ended n
-      → (Sheet (counts_of n), held rs' ss' ts' ps' xs' cs') ≡ load_of bundle l
-  unfolding load_of on-Checked
+      → r ≡ Ok n
+      → (Ok (counts_of n), held rs' ss' ts' ps' xs' cs') ≡ load_of bundle l
+  unfolding load_of on_result
   load_ended rs' ss' ts' ps' xs' cs' n {r} h q = go (check_of bundle) refl
     where
       go :
-          (x : Checked)
+          (x : Result ℕ Refusal)
           → check_of bundle ≡ x
-          → (Sheet (counts_of n), held rs' ss' ts' ps' xs' cs')
-          ≡ on-Checked x (λ e. (NotLoaded e, zeros l)) (λ count. loaded l (load_into (reading bundle) (capacities l) (sheet_at bundle)))
-      go (BadBundle x) w =
-          let y : r ≡ Stopped x = h.0 x w in
+          → (Ok (counts_of n), held rs' ss' ts' ps' xs' cs')
+          ≡ on_result x (λ e. (Err e, zeros l)) (λ count. loaded l (load_into (reading bundle) (capacities l) (sheet_at bundle)))
+      go (Err x) w =
+          let y : r ≡ Err x = h.0 x w in
           different cc
-      go (Texts k) w =
+      go (Ok k) w =
           ended_alike bundle l rs' ss' ts' ps' xs' cs' n
-          (subst (λ τ. Parses (λ m. lent m rs' ss' ts' ps' xs' cs') (Ended n) (load (reading bundle) (sheet_at bundle) τ)) (blanked l rs ss ts ps xs cs z)
+          (subst (λ τ. Parses (λ m. lent m rs' ss' ts' ps' xs' cs') (Ok n) (load (reading bundle) (sheet_at bundle) τ)) (blanked l rs ss ts ps xs cs z)
           (subst (λ r. Parses (λ m. lent m rs' ss' ts' ps' xs' cs') r (load (reading bundle) (sheet_at bundle) (lent nothing_yet rs ss ts ps xs cs))) q (h.1 k w)))
           (loaded_alike bundle l (short_bundle bundle w) (sheet_at bundle))
 
 -- tables that are zeroed again
 pub again_zero :
-    (l k : Lengths) {h : Held} {e : Refusal} {w : Loaded × Held}
+    (l k : Lengths) {h : Held} {e : Refusal} {w : Result Counts Refusal × Held}
     → h ≡ zeros k
     → k.rules ≡ l.rules
     → k.selectors ≡ l.selectors
@@ -160,6 +156,6 @@ pub again_zero :
     → k.properties ≡ l.properties
     → k.numbers ≡ l.numbers
     → k.colors ≡ l.colors
-    → (NotLoaded e, zeros l) ≡ w
-    → (NotLoaded e, h) ≡ w
-again_zero l k {h} {e} z a b c d f g q = ap (λ (h : Held). (NotLoaded e, h)) (z ∙ rw (a, b, c, d, f, g) refl) ∙ q
+    → (Err e, zeros l) ≡ w
+    → (Err e, h) ≡ w
+again_zero l k {h} {e} z a b c d f g q = ap (λ (h : Held). (Err e, h)) (z ∙ rw (a, b, c, d, f, g) refl) ∙ q

@@ -1,14 +1,11 @@
 -- A load: the refusal of the first event in reading order, or the counts; and what the six tables hold then.
-use Rattle.std.specs.Prelude.{ℕ, ◌≡◌, List, Float, replicate}
+use Rattle.std.specs.Prelude.{ℕ, ◌≡◌, List, Float, replicate, Result, Ok, Err}
 use Rattle.base.specs.Bytes.{Bytes}
 use Rattle.base.specs.Table.{zero_float}
 use Rattle.base.specs.declared.Range.{Range}
 use Rattle.base.specs.declared.refusal.Refusal.{Refusal}
 use Rattle.bundle.specs.Bundle.{ranges_of, check_of}
-use Rattle.bundle.specs.Elim.{on-Checked}
-use Rattle.bundle.specs.declared.Checked.TheVariants.{BadBundle, Texts}
 use Rattle.cursor.specs.Cursor.{start}
-use Rattle.group.specs.Elim.{on-Pair}
 use Rattle.group.specs.Pair.{nth_of}
 use Rattle.grammar.specs.Accepted.{load_into}
 use Rattle.grammar.specs.Capacity.{Tables}
@@ -22,10 +19,7 @@ use Rattle.input.specs.Source.{Spot, spot, source}
 use Rattle.keep.specs.declared.Tally.{Tally}
 use Rattle.sheets.specs.Sheets.{Parses}
 use Rattle.parser.specs.declared.Counts.{Counts}
-use Rattle.parser.specs.declared.Loaded.{Loaded}
-use Rattle.parser.specs.declared.Loaded.TheVariants.{NotLoaded, Sheet}
-use Rattle.sheets.specs.declared.Parsed.{Parsed}
-use Rattle.sheets.specs.declared.Parsed.TheVariants.{Stopped}
+use Rattle.base.specs.Option.{on_option2, on_result}
 
 -- the six tables
 pub record Held : Type 0 where
@@ -55,7 +49,7 @@ counts_of n =
 
 -- where text 0 stands in the bundle
 unfoldable pub first_text : Bytes → Range
-first_text bundle = on-Pair (nth_of (ranges_of bundle) 0) (range 0 0) λ name text. text
+first_text bundle = on_option2 (nth_of (ranges_of bundle) 0) (range 0 0) λ name text. text
 
 -- its start
 abbrev pub sheet_at : Bytes → Spot
@@ -63,14 +57,14 @@ sheet_at bundle = spot (source 0 (first_text bundle)) start
 
 -- of a reading into lists of entries, with the capacities of these lengths: a refusal leaves zeros; a sheet leaves its entries in
 -- words (keep/specs/Encode.antt), and zeros behind them
-unfoldable pub loaded : Lengths → Answer Reading Spot Tables Refusal → Loaded × Held
-loaded l (refused e υ) = (NotLoaded e, zeros l)
-loaded l (read js c υ) = (Sheet (counts_of (tally_of υ)), held_in (lent_of l υ))
+unfoldable pub loaded : Lengths → Answer Reading Spot Tables Refusal → Result Counts Refusal × Held
+loaded l (refused e υ) = (Err e, zeros l)
+loaded l (read js c υ) = (Ok (counts_of (tally_of υ)), held_in (lent_of l υ))
 
 -- the layout (1) and the UTF-8 (2) of the bundle come first, then the grammar's reader on text 0, at depth 8
-unfoldable pub load_of : Bytes → Lengths → Loaded × Held
+unfoldable pub load_of : Bytes → Lengths → Result Counts Refusal × Held
 load_of bundle l =
-    on-Checked (check_of bundle) (λ e. (NotLoaded e, zeros l)) λ count.
+    on_result (check_of bundle) (λ e. (Err e, zeros l)) λ count.
     loaded l (load_into (reading bundle) (capacities l) (sheet_at bundle))
 
 -- ---- inside a load
@@ -79,7 +73,7 @@ abbrev pub nothing_yet : Tally
 nothing_yet = none_yet
 
 -- from the tables τ to the others
-abbrev pub BundleRead : Bytes → Lent → (Tally → Lent) → Parsed → Type 0
+abbrev pub BundleRead : Bytes → Lent → (Tally → Lent) → Result Tally Refusal → Type 0
 BundleRead bundle τ tables r =
-    ((e : Refusal) → check_of bundle ≡ BadBundle e → r ≡ Stopped e)
-    × ((count : ℕ) → check_of bundle ≡ Texts count → Parses tables r (load (reading bundle) (sheet_at bundle) τ))
+    ((e : Refusal) → check_of bundle ≡ Err e → r ≡ Err e)
+    × ((count : ℕ) → check_of bundle ≡ Ok count → Parses tables r (load (reading bundle) (sheet_at bundle) τ))

@@ -8,11 +8,9 @@ ghost use Rattle.parser.specs.Load.{held, zeros, first_text, nothing_yet, Bundle
 
 use base::refusal::Refusal;
 use base::{Range, zero_floats, zero_words};
-use bundle::Checked;
-use group::Pair;
 use input::Source;
 use keep::Tally;
-use sheets::{Parsed, parse};
+use sheets::parse;
 
 // How many entries each table holds.
 #[derive(Clone, Copy)]
@@ -25,13 +23,6 @@ pub struct Counts {
     pub colors: usize,
 }
 
-// What a load answers.
-#[derive(Clone, Copy)]
-pub enum Loaded {
-    NotLoaded(Refusal),
-    Sheet(Counts),
-}
-
 // Loads a bundle's sheet into six tables. What they held before does not matter; a refusal leaves all of them zero to their end,
 // and so is everything behind the entries of a sheet. specs/Load.antt says what the tables hold.
 pub fn load(
@@ -42,16 +33,16 @@ pub fn load(
     properties: &mut [u32],
     numbers: &mut [f64],
     colors: &mut [u32],
-) -> Loaded
+) -> Result<Counts, Refusal>
     ensures { (result, held rules.new selectors.new tests.new properties.new numbers.new colors.new) ≡ load_of bundle.now (lengths (length rules.old) (length selectors.old) (length tests.old) (length properties.old) (length numbers.old) (length colors.old)) }
 {
     blank(rules, selectors, tests, properties, numbers, colors);
     match read_bundle(bundle, rules, selectors, tests, properties, numbers, colors) {
-        Parsed::Stopped(e) => {
+        Err(e) => {
             blank(rules, selectors, tests, properties, numbers, colors);
-            Loaded::NotLoaded(e)
+            Err(e)
         }
-        Parsed::Ended(n) => Loaded::Sheet(Counts {
+        Ok(n) => Ok(Counts {
             rules: n.rules,
             selectors: n.selectors,
             tests: n.tests,
@@ -90,27 +81,25 @@ fn read_bundle(
     properties: &mut [u32],
     numbers: &mut [f64],
     colors: &mut [u32],
-) -> Parsed
+) -> Result<Tally, Refusal>
     ensures { BundleRead bundle.now (lent nothing_yet rules.old selectors.old tests.old properties.old numbers.old colors.old) (λ m. lent m rules.new selectors.new tests.new properties.new numbers.new colors.new) result }
 {
-    match bundle::check_bundle(bundle) {
-        Checked::BadBundle(e) => Parsed::Stopped(e),
-        Checked::Texts(_) => parse(
-            bundle,
-            Source {
-                number: 0,
-                range: first_text(bundle),
-            },
-            8,
-            none_yet(),
-            rules,
-            selectors,
-            tests,
-            properties,
-            numbers,
-            colors,
-        ),
-    }
+    let _ = bundle::check_bundle(bundle)?;
+    parse(
+        bundle,
+        Source {
+            number: 0,
+            range: first_text(bundle),
+        },
+        8,
+        none_yet(),
+        rules,
+        selectors,
+        tests,
+        properties,
+        numbers,
+        colors,
+    )
 }
 
 // Where the sheet stands in the bundle.
@@ -118,8 +107,8 @@ fn first_text(bundle: &[u8]) -> Range
     ensures { result ≡ first_text bundle.now }
 {
     match bundle::text_at(bundle, 0) {
-        Pair::Broken => Range { from: 0, to: 0 },
-        Pair::Two(_, text) => text,
+        None => Range { from: 0, to: 0 },
+        Some((_, text)) => text,
     }
 }
 

@@ -5,7 +5,6 @@ ghost use Rattle.std.specs.Prelude.{◌≡◌, length};
 
 use base::Range;
 use line::{layer_line, property_count, property_line, refusal_line};
-use printing::Plated;
 use std::io;
 use std::io::Write;
 
@@ -48,11 +47,11 @@ fn print_plate<W: Write>(out: &mut W, input: &[u8]) -> io::Result<()> {
         &mut colors,
         &mut maps,
     ) {
-        Plated::NoPlate(e) => {
+        Err(e) => {
             let n = refusal_line(e, &mut line);
             print_line(out, &line, n)
         }
-        Plated::Layers(b, k) => {
+        Ok((b, k)) => {
             print_layers(
                 out,
                 base::part(input, b),

@@ -6,7 +6,6 @@ ghost use Rattle.std.specs.Prelude.{◌≡◌, ◌+◌, ◌≤◌, ◌<◌, leng
 ghost use Rattle.std.specs.Io.KnownBytes.{Appends};
 
 use base::refusal::Refusal;
-use printing::Plated;
 use std::io;
 use std::io::Write;
 
@@ -111,8 +110,8 @@ fn agrees(input: &[u8], output: &[u8]) -> bool {
         &mut colors,
         &mut maps,
     ) {
-        Plated::NoPlate(e) => { refusal_behind(e, output) == output.len() }
-        Plated::Layers(b, layers) => {
+        Err(e) => { refusal_behind(e, output) == output.len() }
+        Ok((b, layers)) => {
             layers_agree(
                 base::part(input, b),
                 &selectors,

@@ -11,25 +11,16 @@ use Rattle.base.specs.Refusal.{refusal}
 use Rattle.base.specs.Table.{zero_float}
 use Rattle.base.specs.declared.Range.{Range}
 use Rattle.base.specs.declared.refusal.Refusal.{Refusal}
-use Rattle.group.specs.Elim.{Number-Read}
 use Rattle.group.specs.Number.{number_at}
-use Rattle.group.specs.declared.Number.{Number}
-use Rattle.group.specs.declared.Number.TheVariants.{Read}
 use Rattle.keep.specs.Encode.{Lengths, lengths}
 use Rattle.parser.specs.Load.{Held, held, zeros, load_of}
 use Rattle.parser.specs.declared.Counts.{Counts}
-use Rattle.parser.specs.declared.Loaded.{Loaded}
-use Rattle.parser.specs.declared.Loaded.TheVariants.{NotLoaded, Sheet}
 use Rattle.valid.specs.declared.Counts.{Counts as Counts'}
 use Rattle.walk.specs.Maps.{no_rows, maps_of}
-use Rattle.walk.specs.declared.PropertyMaps.{PropertyMaps}
-use Rattle.walk.specs.declared.PropertyMaps.TheVariants.{NoMaps, Maps}
-use Rattle.printing.specs.Elim.{Frame-BadFrame, Frame-Framed}
 use Rattle.printing.specs.Frame.{frame_of, range}
 use Rattle.printing.specs.Plate.{Plate, plate, room, five_of, mapped, loaded_plate, plate_of}
-use Rattle.printing.specs.declared.Frame.{Frame}
-use Rattle.printing.specs.declared.Frame.TheVariants.{BadFrame, Framed}
-use Rattle.printing.specs.declared.Plated.TheVariants.{NoPlate, Layers}
+use Rattle.std.specs.Prelude.{Option, Some, None, Result, Ok, Err}
+use Rattle.base.specs.Option.{option_none, option_some}
 
 -- ---- tables of zeros
 
@@ -61,28 +52,28 @@ room_is a b c d e f p q r s t u = rw (p, q, r, s, t, u)
 -- ---- behind the frame
 
 module _ (bundle entity : Bytes) (zoom : ℕ) (b : Range) (l : Lengths) (z : l ≡ room) where
-  load_is : (r k : Loaded) (h : Held) → (r, h) ≡ load_of bundle l → r ≡ k → load_of bundle room ≡ (k, h)
+  load_is : (r k : Result Counts Refusal) (h : Held) → (r, h) ≡ load_of bundle l → r ≡ k → load_of bundle room ≡ (k, h)
   load_is r k h e m = ap (load_of bundle) (sym z) ∙ via_with e m
 
   pub styled_not :
-      (r : Loaded) (h : Held) (e : Refusal) (t : List ℕ)
+      (r : Result Counts Refusal) (h : Held) (e : Refusal) (t : List ℕ)
       → (r, h) ≡ load_of bundle l
-      → r ≡ NotLoaded e
+      → r ≡ Err e
       → t ≡ no_rows
-      → plate (NoPlate e) h t ≡ loaded_plate zoom b bundle entity (load_of bundle room)
+      → plate (Err e) h t ≡ loaded_plate zoom b bundle entity (load_of bundle room)
   unfolding loaded_plate
   styled_not r h e t q m w =
-      ap (λ (t : List ℕ). plate (NoPlate e) h t) w
-      ∙ sym (ap (loaded_plate zoom b bundle entity) (load_is r (NotLoaded e) h q m))
+      ap (λ (t : List ℕ). plate (Err e) h t) w
+      ∙ sym (ap (loaded_plate zoom b bundle entity) (load_is r (Err e) h q m))
 
-  module _ (r : Loaded) (n : Counts) (five : Counts') (rs ss ts ps : List ℕ) (xs : List Float) (cs : List ℕ) where
+  module _ (r : Result Counts Refusal) (n : Counts) (five : Counts') (rs ss ts ps : List ℕ) (xs : List Float) (cs : List ℕ) where
     abbrev tables : Held
     tables = held rs ss ts ps xs cs
 
     walked :
-        (x k : PropertyMaps) (t : List ℕ)
+        (x k : Result ℕ Refusal) (t : List ℕ)
         → (r, tables) ≡ load_of bundle l
-        → r ≡ Sheet n
+        → r ≡ Ok n
         → five ≡ five_of n
         → (x, t) ≡ maps_of bundle rs ss ts ps xs five zoom entity
         → x ≡ k
@@ -90,73 +81,76 @@ module _ (bundle entity : Bytes) (zoom : ℕ) (b : Range) (l : Lengths) (z : l �
     unfolding loaded_plate
     walked x k t q m f g y =
         sym
-        (ap (loaded_plate zoom b bundle entity) (load_is r (Sheet n) tables q m)
+        (ap (loaded_plate zoom b bundle entity) (load_is r (Ok n) tables q m)
         ∙ ap (λ (five : Counts'). mapped b tables (maps_of bundle rs ss ts ps xs five zoom entity)) (sym f)
         ∙ ap (mapped b tables) (via_with g y))
 
     pub styled_refused :
-        (x : PropertyMaps) (e : Refusal) (t : List ℕ)
+        (x : Result ℕ Refusal) (e : Refusal) (t : List ℕ)
         → (r, tables) ≡ load_of bundle l
-        → r ≡ Sheet n
+        → r ≡ Ok n
         → five ≡ five_of n
         → (x, t) ≡ maps_of bundle rs ss ts ps xs five zoom entity
-        → x ≡ NoMaps e
-        → plate (NoPlate e) tables t ≡ loaded_plate zoom b bundle entity (load_of bundle room)
+        → x ≡ Err e
+        → (z : Result (Range × ℕ) Refusal)
+        → z ≡ Err e
+        → plate z tables t ≡ loaded_plate zoom b bundle entity (load_of bundle room)
     unfolding mapped
-    styled_refused x e t q m f g y = walked x (NoMaps e) t q m f g y
+    styled_refused x e t q m f g y z w =
+        ap (λ (z : Result (Range × ℕ) Refusal). plate z tables t) w ∙ walked x (Err e) t q m f g y
 
     pub styled_maps :
-        (x : PropertyMaps) (k : ℕ) (t : List ℕ)
+        (x : Result ℕ Refusal) (k : ℕ) (t : List ℕ)
         → (r, tables) ≡ load_of bundle l
-        → r ≡ Sheet n
+        → r ≡ Ok n
         → five ≡ five_of n
         → (x, t) ≡ maps_of bundle rs ss ts ps xs five zoom entity
-        → x ≡ Maps k
-        → plate (Layers b k) tables t ≡ loaded_plate zoom b bundle entity (load_of bundle room)
+        → x ≡ Ok k
+        → plate (Ok (b, k)) tables t ≡ loaded_plate zoom b bundle entity (load_of bundle room)
     unfolding mapped
-    styled_maps x k t q m f g y = walked x (Maps k) t q m f g y
+    styled_maps x k t q m f g y = walked x (Ok k) t q m f g y
 
 -- ---- the frame
 
 pub frame_read :
-    (s : Bytes) (x : Number) (n next zoom : ℕ)
+    (s : Bytes) (x : Option (ℕ × ℕ)) (n next zoom : ℕ)
     → length s ≤ 60000
     → x ≡ number_at s 1 4294967295
-    → x ≡ Read n next
+    → x ≡ Some (n, next)
     → next + n ≤ length s
     → zoom ≡ get_or s 0 0
-    → Framed zoom (range next (next + n)) (range (next + n) (length s)) ≡ frame_of s
+    → Some (zoom, range next (next + n), range (next + n) (length s)) ≡ frame_of s
 unfolding frame_of
 frame_read s x n next zoom h q m w z =
     if_false _ _ _ (le-ltb 60000 (length s) h)
-    (Number-Read _ _ _ (via q m)
+    (option_some _ _ _ (via q m)
     (if_false _ _ _ (le-ltb (length s) (next + n) w)
-    (ap (λ (k : ℕ). Framed k (range next (next + n)) (range (next + n) (length s))) z)))
+    (ap (λ (k : ℕ). Some (k, range next (next + n), range (next + n) (length s))) z)))
 
-module _ (s : Bytes) (r : Frame) (q : r ≡ frame_of s) where
+module _ (s : Bytes) (r : Option (ℕ × Range × Range)) (q : r ≡ frame_of s) where
   pub plate_bad :
       (h : Held) (t : List ℕ) (e : Refusal)
-      → r ≡ BadFrame
+      → r ≡ None
       → h ≡ zeros room
       → t ≡ no_rows
       → e ≡ refusal 1 0 0 0 0
-      → plate (NoPlate e) h t ≡ plate_of s
+      → plate (Err e) h t ≡ plate_of s
   unfolding plate_of
   plate_bad h t e m a b c =
-      Frame-BadFrame (frame_of s) _ _ (via q m)
-      (ap (λ (e : Refusal). plate (NoPlate e) h t) c ∙ ap₂ (λ (h : Held) (t : List ℕ). refused_with h t) a b)
+      option_none (frame_of s) _ _ (via q m)
+      (ap (λ (e : Refusal). plate (Err e) h t) c ∙ ap₂ (λ (h : Held) (t : List ℕ). refused_with h t) a b)
     where
       refused_with : Held → List ℕ → Plate
-      refused_with h t = plate (NoPlate (refusal 1 0 0 0 0)) h t
+      refused_with h t = plate (Err (refusal 1 0 0 0 0)) h t
 
   pub plate_framed :
       (zoom : ℕ) (b e : Range) (bundle entity : Bytes) (p : Plate)
-      → r ≡ Framed zoom b e
+      → r ≡ Some (zoom, b, e)
       → bundle ≡ within b s
       → entity ≡ within e s
       → p ≡ loaded_plate zoom b bundle entity (load_of bundle room)
       → p ≡ plate_of s
   unfolding plate_of
   plate_framed zoom b e bundle entity p m x y w =
-      Frame-Framed (frame_of s) _ _ (via q m)
+      option_some (frame_of s) _ _ (via q m)
       (w ∙ ap₂ (λ (x y : Bytes). loaded_plate zoom b x y (load_of x room)) x y)

@@ -1,5 +1,5 @@
 -- What plate prints, as a function of its input: bad framing is refusal 1, then the load into tables of 512 entries, then the maps.
-use Rattle.std.specs.Prelude.{ℕ, List, [], ◌∷◌}
+use Rattle.std.specs.Prelude.{ℕ, List, [], ◌∷◌, Result, Ok, Err}
 use Rattle.base.specs.Bytes.{Bytes, within}
 use Rattle.base.specs.Refusal.{refusal}
 use Rattle.base.specs.declared.Range.{Range}
@@ -9,18 +9,12 @@ use Rattle.decode.specs.Decode.{selector_in, name_at}
 use Rattle.keep.specs.Encode.{Lengths, lengths}
 use Rattle.parser.specs.Load.{Held, zeros, load_of}
 use Rattle.parser.specs.declared.Counts.{Counts}
-use Rattle.parser.specs.declared.Loaded.{Loaded}
-use Rattle.parser.specs.declared.Loaded.TheVariants.{NotLoaded, Sheet}
 use Rattle.valid.specs.declared.Counts.{Counts as Counts'}
 use Rattle.walk.specs.Maps.{no_rows, maps_of}
-use Rattle.walk.specs.declared.PropertyMaps.{PropertyMaps}
-use Rattle.walk.specs.declared.PropertyMaps.TheVariants.{NoMaps, Maps}
 use Rattle.maps.specs.Held.{layers_held}
-use Rattle.printing.specs.Elim.{on-Frame}
 use Rattle.printing.specs.Frame.{frame_of}
 use Rattle.line.specs.Lines.{refusal_line, lines_of}
-use Rattle.printing.specs.declared.Plated.{Plated}
-use Rattle.printing.specs.declared.Plated.TheVariants.{NoPlate, Layers}
+use Rattle.base.specs.Option.{on_option3}
 
 -- the tables lent: 512 entries each
 abbrev pub room : Lengths
@@ -32,37 +26,37 @@ five_of n = record { rules = n.rules; selectors = n.selectors; tests = n.tests; 
 
 -- the answer, and what the lent tables then hold
 pub record Plate : Type 0 where
-  pub answer : Plated
+  pub answer : Result (Range × ℕ) Refusal
   pub tables : Held
   pub maps : List ℕ
 
-abbrev pub plate : Plated → Held → List ℕ → Plate
+abbrev pub plate : Result (Range × ℕ) Refusal → Held → List ℕ → Plate
 plate a h t = record { answer = a; tables = h; maps = t }
 
 abbrev pub refused : Refusal → Held → Plate
-refused e h = plate (NoPlate e) h no_rows
+refused e h = plate (Err e) h no_rows
 
-unfoldable pub mapped : Range → Held → PropertyMaps × List ℕ → Plate
-mapped b h (NoMaps e, t) = plate (NoPlate e) h t
-mapped b h (Maps k, t) = plate (Layers b k) h t
+unfoldable pub mapped : Range → Held → Result ℕ Refusal × List ℕ → Plate
+mapped b h (Err e, t) = plate (Err e) h t
+mapped b h (Ok k, t) = plate (Ok (b, k)) h t
 
-unfoldable pub loaded_plate : ℕ → Range → Bytes → Bytes → Loaded × Held → Plate
-loaded_plate zoom b bundle entity (NotLoaded e, h) = refused e h
-loaded_plate zoom b bundle entity (Sheet n, h) =
+unfoldable pub loaded_plate : ℕ → Range → Bytes → Bytes → Result Counts Refusal × Held → Plate
+loaded_plate zoom b bundle entity (Err e, h) = refused e h
+loaded_plate zoom b bundle entity (Ok n, h) =
     mapped b h (maps_of bundle h.rules h.selectors h.tests h.properties h.numbers (five_of n) zoom entity)
 
 unfoldable pub plate_of : Bytes → Plate
 plate_of input =
-    on-Frame (frame_of input) (refused (refusal 1 0 0 0 0) (zeros room)) λ zoom b e.
+    on_option3 (frame_of input) (refused (refusal 1 0 0 0 0) (zeros room)) λ zoom b e.
     loaded_plate zoom b (within b input) (within e input) (load_of (within b input) room)
 
 -- its lines
 abbrev pub lines_for : Bytes → Plate → List Bytes
 lines_for input p = shown p.answer
   where
-    shown : Plated → List Bytes
-    shown (NoPlate e) = refusal_line e ∷ []
-    shown (Layers b k) =
+    shown : Result (Range × ℕ) Refusal → List Bytes
+    shown (Err e) = refusal_line e ∷ []
+    shown (Ok (b, k)) =
         let bundle = within b input in
         let h = p.tables in
         lines_of

@@ -9,24 +9,7 @@ ghost use Rattle.printing.specs.Plate.{plate, room, five_of, loaded_plate, plate
 
 use base::refusal::{BUNDLE_LAYOUT, Refusal};
 use base::{Range, zero_floats, zero_words};
-use group::Number;
-use parser::Loaded;
 use valid::Counts;
-use walk::PropertyMaps;
-
-// A zoom, and where the bundle and the entity stand in the input.
-#[derive(Clone, Copy)]
-pub enum Frame {
-    BadFrame,
-    Framed(u8, Range, Range),
-}
-
-// The refusal, or where the bundle stands and how many layers there are.
-#[derive(Clone, Copy)]
-pub enum Plated {
-    NoPlate(Refusal),
-    Layers(Range, usize),
-}
 
 // Reads the input's entity in the input's sheet: the answer, and what is left in the lent tables, are those of specs/Plate.antt.
 pub fn plate(
@@ -38,15 +21,15 @@ pub fn plate(
     numbers: &mut [f64; 512],
     colors: &mut [u32; 4096],
     maps: &mut [u32; 4323],
-) -> Plated
+) -> Result<(Range, usize), Refusal>
     ensures { plate result (held rules.new selectors.new tests.new properties.new numbers.new colors.new) maps.new ≡ plate_of input.now }
 {
     match parts(input) {
-        Frame::BadFrame => {
+        None => {
             blank(rules, selectors, tests, properties, numbers, colors, maps);
-            Plated::NoPlate(Refusal::plain(BUNDLE_LAYOUT))
+            Err(Refusal::plain(BUNDLE_LAYOUT))
         }
-        Frame::Framed(zoom, b, e) => styled(
+        Some((zoom, b, e)) => styled(
             base::part(input, b),
             base::part(input, e),
             zoom,
@@ -63,30 +46,26 @@ pub fn plate(
 }
 
 // Where the parts of the input stand.
-fn parts(input: &[u8]) -> Frame
+fn parts(input: &[u8]) -> Option<(u8, Range, Range)>
     ensures { result ≡ frame_of input.now }
 {
     let len = input.len();
     if 60000 < len {
-        return Frame::BadFrame;
+        return None;
     }
-    match group::number_at(input, 1, 4294967295) {
-        Number::Unread => Frame::BadFrame,
-        Number::Read(n, next) => {
-            let end = next + n as usize;
-            if len < end {
-                return Frame::BadFrame;
-            }
-            Frame::Framed(
-                base::byte_at(input, 0),
-                Range {
-                    from: next,
-                    to: end,
-                },
-                Range { from: end, to: len },
-            )
-        }
+    let (n, next) = group::number_at(input, 1, 4294967295)?;
+    let end = next + n as usize;
+    if len < end {
+        return None;
     }
+    Some((
+        base::byte_at(input, 0),
+        Range {
+            from: next,
+            to: end,
+        },
+        Range { from: end, to: len },
+    ))
 }
 
 // Every table is zero.
@@ -124,7 +103,7 @@ fn styled(
     numbers: &mut [f64; 512],
     colors: &mut [u32; 4096],
     maps: &mut [u32; 4323],
-) -> Plated
+) -> Result<(Range, usize), Refusal>
     ensures { plate result (held rules.new selectors.new tests.new properties.new numbers.new colors.new) maps.new ≡ loaded_plate zoom b bundle.now entity.now (load_of bundle.now room) }
 {
     match parser::load(
@@ -136,25 +115,25 @@ fn styled(
         &mut numbers[..],
         &mut colors[..],
     ) {
-        Loaded::NotLoaded(e) => {
+        Err(e) => {
             zero_words(&mut maps[..]);
-            Plated::NoPlate(e)
+            Err(e)
         }
-        Loaded::Sheet(n) => match walk::property_maps(
-            bundle,
-            &rules[..],
-            &selectors[..],
-            &tests[..],
-            &properties[..],
-            &numbers[..],
-            five_of(n),
-            zoom,
-            entity,
-            maps,
-        ) {
-            PropertyMaps::NoMaps(e) => Plated::NoPlate(e),
-            PropertyMaps::Maps(k) => Plated::Layers(b, k),
-        },
+        Ok(n) => {
+            let k = walk::property_maps(
+                bundle,
+                &rules[..],
+                &selectors[..],
+                &tests[..],
+                &properties[..],
+                &numbers[..],
+                five_of(n),
+                zoom,
+                entity,
+                maps,
+            )?;
+            Ok((b, k))
+        }
     }
 }
 

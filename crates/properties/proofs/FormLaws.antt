@@ -1,7 +1,6 @@
 -- The form of an eval: token by token it is the grammar's, and so are the tokens up to the semicolon and the value.
 use Prim.Native.Nat.{ℕ, zero, suc, ◌≤◌}
 use native.Mathlib.Omega.{arith}
-use borrow.Author.Tests.{eq-eqb, ne_eqb}
 use mathlib.Core.Path.{◌≡◌, refl, sym, ap, subst, ◌∙◌}
 use mathlib.Core.Bool.{Bool, true, false, cond}
 use mathlib.Core.List.{List, [], ◌∷◌}
@@ -20,16 +19,14 @@ use Rattle.keep.specs.Lent.{Lent}
 use Rattle.keep.specs.Source.{reading}
 use Rattle.input.specs.Source.{Spot, spot}
 use Rattle.input.specs.Text.{token_of, left, mandatory_of, refusal_at}
-use Rattle.input.specs.declared.Mandatory.TheVariants.{NoToken, Got}
 use Rattle.input.specs.declared.Place.{Place}
 use Rattle.input.specs.declared.Source.{Source}
 use Rattle.keep.specs.declared.Tally.{Tally}
-use Rattle.properties.specs.Eval.{form, no_number, form_start, failed, sign_form, word_form, prop_form, width_form, last_form, form_next, form_all, form_result, Forms, unformed, formed, FormsFrom}
+use Rattle.properties.specs.Eval.{no_number, sign_form, word_form, prop_form, width_form, last_form, form_next, form_all, form_result, Forms, unformed, formed, FormsFrom}
 use Rattle.properties.specs.declared.Form.{Form}
-use Rattle.properties.specs.declared.Formed.{Formed}
-use Rattle.properties.specs.declared.Formed.TheVariants.{NoForm, IsForm}
-use Rattle.properties.specs.declared.ValueRead.{ValueRead}
+use Rattle.properties.specs.declared.Form.TheVariants.{Empty, Opening, PropName, PropOpening, WidthName, PropClosing, Increment, Whole, Failed}
 use Rattle.keep.proofs.Laws.{no_token, got, yes_way, no_way}
+use Rattle.std.specs.Prelude.{Result, Ok, Err}
 
 -- ---- one token
 
@@ -40,6 +37,10 @@ Is r f = r ≡ f
 pub form_as : (f : Token' → Form) (bundle : Bytes) {t v : Token} {r : Form} → t ≡ v → r ≡ f (token_of bundle v) → r ≡ f (token_of bundle t)
 form_as f bundle e h = h ∙ ap (λ t. f (token_of bundle t)) (sym e)
 
+-- a form that is known
+pub next_as : {f g r : Form} (t : Token') → f ≡ g → r ≡ form_next g t → r ≡ form_next f t
+next_as t e h = h ∙ ap (λ f. form_next f t) (sym e)
+
 pub same_part : {b k : Bool} (p q w : Bytes) → b ≡ same p w → p ≡ q → b ≡ k → same q w ≡ k
 same_part p q w e h m = ap (λ p. same p w) (sym h) ∙ sym e ∙ m
 
@@ -48,12 +49,12 @@ same_part p q w e h m = ap (λ p. same p w) (sym h) ∙ sym e ∙ m
 abbrev result_of : Form → List Token' → Option Float
 result_of f ts = form_result (form_all f ts)
 
-failed_none : (ts : List Token') → none ≡ result_of failed ts
+failed_none : (ts : List Token') → none ≡ result_of Failed ts
 unfolding form_result form_all form_next
 failed_none [] = refl
 failed_none (t ∷ ts) = failed_none ts
 
-choose : (b : Bool) (x : Option Float) (f : Form) (ts : List Token') → x ≡ result_of f ts → cond b x none ≡ result_of (cond b f failed) ts
+choose : (b : Bool) (x : Option Float) (f : Form) (ts : List Token') → x ≡ result_of f ts → cond b x none ≡ result_of (cond b f Failed) ts
 choose true x f ts h = h
 choose false x f ts h = failed_none ts
 
@@ -62,12 +63,12 @@ cond_none true = refl
 cond_none false = refl
 
 -- behind a form that ended, another token
-ended : (b : Bool) (x : Float) (t : Token') (ts : List Token') → none ≡ result_of (form_next (cond b (form 7 x) failed) t) ts
+ended : (b : Bool) (x : Float) (t : Token') (ts : List Token') → none ≡ result_of (form_next (cond b (Whole x) Failed) t) ts
 unfolding form_next
 ended true x t ts = failed_none ts
 ended false x t ts = failed_none ts
 
-ended_more : (b : Bool) (t u : Token') (ts : List Token') → none ≡ result_of (form_next (form_next (cond b (form 7 no_number) failed) t) u) ts
+ended_more : (b : Bool) (t u : Token') (ts : List Token') → none ≡ result_of (form_next (form_next (cond b (Whole no_number) Failed) t) u) ts
 unfolding form_next
 ended_more true t u ts = failed_none ts
 ended_more false t u ts = failed_none ts
@@ -81,7 +82,7 @@ last_one (color_ref x) = refl
 last_one (number x) = refl
 last_one (zoom_range x y) = refl
 last_one (color x) = refl
-last_one (sign g) = choose (is_sign right_paren (sign g)) (some no_number) (form 7 no_number) [] refl
+last_one (sign g) = choose (is_sign right_paren (sign g)) (some no_number) (Whole no_number) [] refl
 
 last_two : (t u : Token') → on_sign right_paren u (on_number t some none) none ≡ result_of (form_next (last_form t) u) []
 unfolding form_result form_all form_next sign_form last_form is_sign on_number
@@ -89,7 +90,7 @@ last_two (import x) u = cond_none (is_sign right_paren u)
 last_two (identifier x) u = cond_none (is_sign right_paren u)
 last_two (string x) u = cond_none (is_sign right_paren u)
 last_two (color_ref x) u = cond_none (is_sign right_paren u)
-last_two (number x) u = choose (is_sign right_paren u) (some x) (form 7 x) [] refl
+last_two (number x) u = choose (is_sign right_paren u) (some x) (Whole x) [] refl
 last_two (zoom_range x y) u = cond_none (is_sign right_paren u)
 last_two (color x) u = cond_none (is_sign right_paren u)
 last_two (sign g) u = cond_none (is_sign right_paren u) ∙ ended (is_sign right_paren (sign g)) no_number u []
@@ -105,7 +106,7 @@ last_more (zoom_range x y) u v ts = failed_none ts
 last_more (color x) u v ts = failed_none ts
 last_more (sign g) u v ts = ended_more (is_sign right_paren (sign g)) u v ts
 
-suffix_is : (ts : List Token') → suffix ts ≡ result_of (form 5 no_number) ts
+suffix_is : (ts : List Token') → suffix ts ≡ result_of PropClosing ts
 unfolding form_result form_all form_next
 suffix_is [] = refl
 suffix_is (t ∷ []) = last_one t
@@ -114,14 +115,14 @@ suffix_is (t ∷ u ∷ v ∷ ts) = last_more t u v ts
 
 -- a token that must come: f before it, n behind it
 module _ (f n : Form) (z : none ≡ form_result f) (k : List Token' → Option Float) (h : (ts : List Token') → k ts ≡ result_of n ts) where
-  want_is : (g : Sign) → ((t : Token') → form_next f t ≡ on_sign g t n failed) → (ts : List Token') → want g ts k ≡ result_of f ts
+  want_is : (g : Sign) → ((t : Token') → form_next f t ≡ on_sign g t n Failed) → (ts : List Token') → want g ts k ≡ result_of f ts
   unfolding form_all
   want_is g e [] = z
   want_is g e (t ∷ ts) = choose (is_sign g t) (k ts) n ts (h ts) ∙ ap (λ f. result_of f ts) (sym (e t))
 
   word_chosen :
       (w : Bytes) (t : Token') (ts : List Token')
-      → on_identifier t (λ a. cond (same a.bytes w) (k ts) none) none ≡ result_of (on_identifier t (λ a. cond (same a.bytes w) n failed) failed) ts
+      → on_identifier t (λ a. cond (same a.bytes w) (k ts) none) none ≡ result_of (on_identifier t (λ a. cond (same a.bytes w) n Failed) Failed) ts
   unfolding on_identifier
   word_chosen w (import x) ts = failed_none ts
   word_chosen w (identifier x) ts = choose (same x.bytes w) (k ts) n ts (h ts)
@@ -134,7 +135,7 @@ module _ (f n : Form) (z : none ≡ form_result f) (k : List Token' → Option F
 
   word_is :
       (w : Bytes)
-      → ((t : Token') → form_next f t ≡ on_identifier t (λ a. cond (same a.bytes w) n failed) failed)
+      → ((t : Token') → form_next f t ≡ on_identifier t (λ a. cond (same a.bytes w) n Failed) Failed)
       → (ts : List Token')
       → want_word w ts k ≡ result_of f ts
   unfolding form_all
@@ -143,7 +144,7 @@ module _ (f n : Form) (z : none ≡ form_result f) (k : List Token' → Option F
 
   string_chosen :
       (w : Bytes) (t : Token') (ts : List Token')
-      → on_string t (λ a. cond (same a.bytes w) (k ts) none) none ≡ result_of (on_string t (λ a. cond (same a.bytes w) n failed) failed) ts
+      → on_string t (λ a. cond (same a.bytes w) (k ts) none) none ≡ result_of (on_string t (λ a. cond (same a.bytes w) n Failed) Failed) ts
   unfolding on_string
   string_chosen w (import x) ts = failed_none ts
   string_chosen w (identifier x) ts = failed_none ts
@@ -156,38 +157,38 @@ module _ (f n : Form) (z : none ≡ form_result f) (k : List Token' → Option F
 
   string_is :
       (w : Bytes)
-      → ((t : Token') → form_next f t ≡ on_string t (λ a. cond (same a.bytes w) n failed) failed)
+      → ((t : Token') → form_next f t ≡ on_string t (λ a. cond (same a.bytes w) n Failed) Failed)
       → (ts : List Token')
       → want_string w ts k ≡ result_of f ts
   unfolding form_all
   string_is w e [] = z
   string_is w e (t ∷ ts) = string_chosen w t ts ∙ ap (λ f. result_of f ts) (sym (e t))
 
-behind_4 : (ts : List Token') → want right_paren ts suffix ≡ result_of (form 4 no_number) ts
+behind_4 : (ts : List Token') → want right_paren ts suffix ≡ result_of WidthName ts
 unfolding form_result form_next sign_form
-behind_4 = want_is (form 4 no_number) (form 5 no_number) refl suffix suffix_is right_paren λ t. refl
+behind_4 = want_is WidthName PropClosing refl suffix suffix_is right_paren λ t. refl
 
-behind_3 : (ts : List Token') → want_string (ascii "width") ts (λ ts. want right_paren ts suffix) ≡ result_of (form 3 no_number) ts
+behind_3 : (ts : List Token') → want_string (ascii "width") ts (λ ts. want right_paren ts suffix) ≡ result_of PropOpening ts
 unfolding form_result form_next width_form word_form
-behind_3 = string_is (form 3 no_number) (form 4 no_number) refl (λ ts. want right_paren ts suffix) behind_4 (ascii "width") λ t. refl
+behind_3 = string_is PropOpening WidthName refl (λ ts. want right_paren ts suffix) behind_4 (ascii "width") λ t. refl
 
-behind_2 : (ts : List Token') → want left_paren ts (λ ts. want_string (ascii "width") ts λ ts. want right_paren ts suffix) ≡ result_of (form 2 no_number) ts
+behind_2 : (ts : List Token') → want left_paren ts (λ ts. want_string (ascii "width") ts λ ts. want right_paren ts suffix) ≡ result_of PropName ts
 unfolding form_result form_next sign_form
 behind_2 =
-    want_is (form 2 no_number) (form 3 no_number) refl (λ ts. want_string (ascii "width") ts λ ts. want right_paren ts suffix) behind_3 left_paren λ t. refl
+    want_is PropName PropOpening refl (λ ts. want_string (ascii "width") ts λ ts. want right_paren ts suffix) behind_3 left_paren λ t. refl
 
 behind_1 :
     (ts : List Token')
     → want_word (ascii "prop") ts (λ ts. want left_paren ts λ ts. want_string (ascii "width") ts λ ts. want right_paren ts suffix)
-    ≡ result_of (form 1 no_number) ts
+    ≡ result_of Opening ts
 unfolding form_result form_next prop_form word_form
 behind_1 =
-    word_is (form 1 no_number) (form 2 no_number) refl (λ ts. want left_paren ts λ ts. want_string (ascii "width") ts λ ts. want right_paren ts suffix) behind_2 (ascii "prop") λ t. refl
+    word_is Opening PropName refl (λ ts. want left_paren ts λ ts. want_string (ascii "width") ts λ ts. want right_paren ts suffix) behind_2 (ascii "prop") λ t. refl
 
-pub form_is : (ts : List Token') → width_increment ts ≡ form_result (form_all form_start ts)
+pub form_is : (ts : List Token') → width_increment ts ≡ form_result (form_all Empty ts)
 unfolding width_increment form_result form_next sign_form
 form_is =
-    want_is form_start (form 1 no_number) refl
+    want_is Empty Opening refl
     (λ ts. want_word (ascii "prop") ts λ ts. want left_paren ts λ ts. want_string (ascii "width") ts λ ts. want right_paren ts suffix)
     behind_1 left_paren λ t. refl
 
@@ -195,32 +196,32 @@ form_is =
 
 module _ (bundle : Bytes) (s : Source) (b : ℕ) where
   consed :
-      (τ : Lent) (f : Form) (t : Token') {r : Formed} {a : Answer (List Token') Spot Lent Refusal}
+      (τ : Lent) (f : Form) (t : Token') {r : Result (Form × Cursor) Refusal} {a : Answer (List Token') Spot Lent Refusal}
       → Forms bundle s b τ (form_next f t) r a
       → Forms bundle s b τ f r (after a λ ts e τ. read (t ∷ ts) e τ)
   unfolding after form_all
   consed τ f t unformed = unformed
   consed τ f t (formed ts d e l) = formed (t ∷ ts) d e l
 
-  pub form_none : (f : Form) (c : Cursor) {e : Refusal} → mandatory_of bundle s c ≡ NoToken e → FormsFrom bundle s b f c (NoForm e)
+  pub form_none : (f : Form) (c : Cursor) {e : Refusal} → mandatory_of bundle s c ≡ Err e → FormsFrom bundle s b f c (Err e)
   unfolding tokens_to_semi_colon
   form_none f c h τ zero l = absurd (omega (arith, l))
-  form_none f c {e} h τ (suc k) l = no_token (Forms bundle s b τ f (NoForm e)) bundle s c τ _ h unformed
+  form_none f c {e} h τ (suc k) l = no_token (Forms bundle s b τ f (Err e)) bundle s c τ _ h unformed
 
   pub form_last :
       (f : Form) (c : Cursor) {d : Cursor} {t : Token} {o : Place}
-      → mandatory_of bundle s c ≡ Got t o d
+      → mandatory_of bundle s c ≡ Ok (t, o, d)
       → is_sign semi_colon (token_of bundle t) ≡ true
       → left bundle s c ≤ b
-      → FormsFrom bundle s b f c (IsForm f d)
+      → FormsFrom bundle s b f c (Ok (f, d))
   unfolding tokens_to_semi_colon form_all
   form_last f c h n p τ zero l = absurd (omega (arith, l))
   form_last f c {d} h n p τ (suc k) l =
-      got (Forms bundle s b τ f (IsForm f d)) bundle s c τ _ h λ m. yes_way (Forms bundle s b τ f (IsForm f d)) _ _ _ n (formed [] d refl (omega (arith, m, p)))
+      got (Forms bundle s b τ f (Ok (f, d))) bundle s c τ _ h λ m. yes_way (Forms bundle s b τ f (Ok (f, d))) _ _ _ n (formed [] d refl (omega (arith, m, p)))
 
   pub form_more :
-      (f : Form) (c : Cursor) {g : Form} {d : Cursor} {t : Token} {o : Place} (r : Formed)
-      → mandatory_of bundle s c ≡ Got t o d
+      (f : Form) (c : Cursor) {g : Form} {d : Cursor} {t : Token} {o : Place} (r : Result (Form × Cursor) Refusal)
+      → mandatory_of bundle s c ≡ Ok (t, o, d)
       → is_sign semi_colon (token_of bundle t) ≡ false
       → g ≡ form_next f (token_of bundle t)
       → FormsFrom bundle s b g d r
@@ -233,13 +234,17 @@ module _ (bundle : Bytes) (s : Source) (b : ℕ) where
 
 -- ---- the value
 
-complete : (f : Form) → f.step ≡ 7 → form_result f ≡ some f.number
+unfinished : (f : Form) → ((x : Float) → f ≡ Whole x → ⊥) → form_result f ≡ none
 unfolding form_result
-complete f e = ap (λ b. cond b (some f.number) none) (eq-eqb _ _ e)
-
-incomplete : (f : Form) → (f.step ≡ 7 → ⊥) → form_result f ≡ none
-unfolding form_result
-incomplete f e = ap (λ b. cond b (some f.number) none) (ne_eqb _ _ e)
+unfinished Empty n = refl
+unfinished Opening n = refl
+unfinished PropName n = refl
+unfinished PropOpening n = refl
+unfinished WidthName n = refl
+unfinished PropClosing n = refl
+unfinished (Increment x) n = refl
+unfinished (Whole x) n = absurd (n x refl)
+unfinished Failed n = refl
 
 module _ (Q : Answer Value Spot Lent Refusal → Type 0) (bundle : Bytes) (s : Source) (b : ℕ) (o : Place) (τ : Lent) where
   -- what is made of the tokens
@@ -249,45 +254,45 @@ module _ (Q : Answer Value Spot Lent Refusal → Type 0) (bundle : Bytes) (s : S
       keep (reading bundle) (number_entry x) d τ λ τ. read (width_delta x) d τ
 
   pub eval_refused :
-      {r : Formed} {a : Answer (List Token') Spot Lent Refusal} {e : Refusal}
-      → Forms bundle s b τ form_start r a
-      → r ≡ NoForm e
+      {r : Result (Form × Cursor) Refusal} {a : Answer (List Token') Spot Lent Refusal} {e : Refusal}
+      → Forms bundle s b τ Empty r a
+      → r ≡ Err e
       → Q (refused e τ)
       → Q (after a made)
   unfolding after
-  eval_refused {a = a} {e = e} h i q = go (subst (λ r. Forms bundle s b τ form_start r a) i h)
+  eval_refused {a = a} {e = e} h i q = go (subst (λ r. Forms bundle s b τ Empty r a) i h)
     where
-      go : {a : Answer (List Token') Spot Lent Refusal} → Forms bundle s b τ form_start (NoForm e) a → Q (after a made)
+      go : {a : Answer (List Token') Spot Lent Refusal} → Forms bundle s b τ Empty (Err e) a → Q (after a made)
       go unformed = q
 
   pub eval_made :
-      {r : Formed} {a : Answer (List Token') Spot Lent Refusal} {f : Form} {d : Cursor}
-      → Forms bundle s b τ form_start r a
-      → r ≡ IsForm f d
-      → f.step ≡ 7
-      → (left bundle s d ≤ b → Q (keep (reading bundle) (number_entry f.number) (spot s d) τ λ τ. read (width_delta f.number) (spot s d) τ))
+      {r : Result (Form × Cursor) Refusal} {a : Answer (List Token') Spot Lent Refusal} {f : Form} {x : Float} {d : Cursor}
+      → Forms bundle s b τ Empty r a
+      → r ≡ Ok (f, d)
+      → f ≡ Whole x
+      → (left bundle s d ≤ b → Q (keep (reading bundle) (number_entry x) (spot s d) τ λ τ. read (width_delta x) (spot s d) τ))
       → Q (after a made)
-  unfolding after on_option
-  eval_made {a = a} {f = f} {d = d} h i n q = go (subst (λ r. Forms bundle s b τ form_start r a) i h)
+  unfolding after on_option form_result
+  eval_made {a = a} {f = f} {d = d} h i n q = go (subst (λ r. Forms bundle s b τ Empty r a) i h)
     where
-      go : {a : Answer (List Token') Spot Lent Refusal} → Forms bundle s b τ form_start (IsForm f d) a → Q (after a made)
+      go : {a : Answer (List Token') Spot Lent Refusal} → Forms bundle s b τ Empty (Ok (f, d)) a → Q (after a made)
       go (formed ts d e l) =
           subst (λ x. Q (on_option x (fail (reading bundle) eval_form o τ) λ x. keep (reading bundle) (number_entry x) (spot s d) τ λ τ. read (width_delta x) (spot s d) τ))
-          (sym (form_is ts ∙ ap form_result (sym e) ∙ complete f n))
+          (sym (form_is ts ∙ ap form_result (sym e ∙ n)))
           (q l)
 
   pub eval_unmade :
-      {r : Formed} {a : Answer (List Token') Spot Lent Refusal} {f : Form} {d : Cursor}
-      → Forms bundle s b τ form_start r a
-      → r ≡ IsForm f d
-      → (f.step ≡ 7 → ⊥)
+      {r : Result (Form × Cursor) Refusal} {a : Answer (List Token') Spot Lent Refusal} {f : Form} {d : Cursor}
+      → Forms bundle s b τ Empty r a
+      → r ≡ Ok (f, d)
+      → ((x : Float) → f ≡ Whole x → ⊥)
       → Q (refused (refusal_at 4 6 o) τ)
       → Q (after a made)
   unfolding after on_option
-  eval_unmade {a = a} {f = f} {d = d} h i n q = go (subst (λ r. Forms bundle s b τ form_start r a) i h)
+  eval_unmade {a = a} {f = f} {d = d} h i n q = go (subst (λ r. Forms bundle s b τ Empty r a) i h)
     where
-      go : {a : Answer (List Token') Spot Lent Refusal} → Forms bundle s b τ form_start (IsForm f d) a → Q (after a made)
+      go : {a : Answer (List Token') Spot Lent Refusal} → Forms bundle s b τ Empty (Ok (f, d)) a → Q (after a made)
       go (formed ts d e l) =
           subst (λ x. Q (on_option x (fail (reading bundle) eval_form o τ) λ x. keep (reading bundle) (number_entry x) (spot s d) τ λ τ. read (width_delta x) (spot s d) τ))
-          (sym (form_is ts ∙ ap form_result (sym e) ∙ incomplete f n))
+          (sym (form_is ts ∙ ap form_result (sym e) ∙ unfinished f n))
           q

@@ -3,15 +3,15 @@ ghost use Rattle.std.specs.Prelude.{◌≡◌};
 ghost use Rattle.base.specs.Bytes.{ascii, same, within};
 ghost use Rattle.grammar.specs.Token.{left_paren, right_paren};
 ghost use Rattle.input.specs.Text.{token_of};
-ghost use Rattle.properties.specs.Eval.{OfToken, no_number, failed, sign_form, word_form, prop_form, width_form, last_form, form_next, FormAnswer, DeltaKept, EvalRead};
+ghost use Rattle.properties.specs.Eval.{OfToken, sign_form, word_form, prop_form, width_form, last_form, form_next, FormAnswer, DeltaKept, EvalRead};
 
-use crate::{Form, Formed, ValueRead};
-use base::refusal::{EVAL_FORM, NUMBERS, PARSE, TABLE_FULL};
+use crate::Form;
+use base::refusal::{EVAL_FORM, NUMBERS, PARSE, Refusal, TABLE_FULL};
 use base::{Range, same_bytes};
 use cursor::Cursor;
 use input::tokens::{read_mandatory_token, refuse, refuse_reached};
-use input::{Mandatory, Place, Source};
-use keep::{Room, Tally, keep_number};
+use input::{Place, Source};
+use keep::{Tally, keep_number};
 use table::PropertyValue;
 use token_kind::Token;
 
@@ -21,52 +21,42 @@ pub fn is_eval(bundle: &[u8], a: Range) -> bool
     same_bytes(base::part(bundle, a), b"eval")
 }
 
-// The form failed.
-fn failed() -> Form
-    ensures { result ≡ failed }
-{
-    Form {
-        step: 8,
-        number: 0.0,
-    }
-}
-
-// An opening bracket leads to a step.
-fn open_form(t: Token, step: u8) -> Form
-    ensures { OfToken (sign_form left_paren step no_number) t result }
+// An opening bracket leads on.
+fn open_form(t: Token, next: Form) -> Form
+    ensures { OfToken (sign_form left_paren next) t result }
 {
     match t {
-        Token::LeftParen => Form { step, number: 0.0 },
-        _ => failed(),
+        Token::LeftParen => next,
+        _ => Form::Failed,
     }
 }
 
-// A closing bracket leads to a step, with the number x.
-fn close_form(t: Token, step: u8, x: f64) -> Form
-    ensures { OfToken (sign_form right_paren step x) t result }
+// A closing bracket leads on.
+fn close_form(t: Token, next: Form) -> Form
+    ensures { OfToken (sign_form right_paren next) t result }
 {
     match t {
-        Token::RightParen => Form { step, number: x },
-        _ => failed(),
+        Token::RightParen => next,
+        _ => Form::Failed,
     }
 }
 
-// The one text leads to a step.
-fn word_form(bundle: &[u8], a: Range, word: &[u8], step: u8) -> Form
-    ensures { result ≡ word_form step word.now (within a bundle.now) }
+// The one text leads on.
+fn word_form(bundle: &[u8], a: Range, word: &[u8], next: Form) -> Form
+    ensures { result ≡ word_form next word.now (within a bundle.now) }
 {
     if same_bytes(base::part(bundle, a), word) {
-        return Form { step, number: 0.0 };
+        return next;
     }
-    failed()
+    Form::Failed
 }
 
 fn prop_form(bundle: &[u8], t: Token) -> Form
     ensures { result ≡ prop_form (token_of bundle.now t) }
 {
     match t {
-        Token::Identifier(a) => word_form(bundle, a, b"prop", 2),
-        _ => failed(),
+        Token::Identifier(a) => word_form(bundle, a, b"prop", Form::PropName),
+        _ => Form::Failed,
     }
 }
 
@@ -74,8 +64,8 @@ fn width_form(bundle: &[u8], t: Token) -> Form
     ensures { result ≡ width_form (token_of bundle.now t) }
 {
     match t {
-        Token::Text(a) => word_form(bundle, a, b"width", 4),
-        _ => failed(),
+        Token::Text(a) => word_form(bundle, a, b"width", Form::WidthName),
+        _ => Form::Failed,
     }
 }
 
@@ -84,12 +74,9 @@ fn last_form(t: Token) -> Form
     ensures { OfToken last_form t result }
 {
     match t {
-        Token::RightParen => Form {
-            step: 7,
-            number: 0.0,
-        },
-        Token::Number(x) => Form { step: 6, number: x },
-        _ => failed(),
+        Token::RightParen => Form::Whole(0.0),
+        Token::Number(x) => Form::Increment(x),
+        _ => Form::Failed,
     }
 }
 
@@ -97,64 +84,52 @@ fn last_form(t: Token) -> Form
 fn form_next(bundle: &[u8], f: Form, t: Token) -> Form
     ensures { result ≡ form_next f (token_of bundle.now t) }
 {
-    if f.step == 0 {
-        return open_form(t, 1);
+    match f {
+        Form::Empty => open_form(t, Form::Opening),
+        Form::Opening => prop_form(bundle, t),
+        Form::PropName => open_form(t, Form::PropOpening),
+        Form::PropOpening => width_form(bundle, t),
+        Form::WidthName => close_form(t, Form::PropClosing),
+        Form::PropClosing => last_form(t),
+        Form::Increment(x) => close_form(t, Form::Whole(x)),
+        Form::Whole(_) => Form::Failed,
+        Form::Failed => Form::Failed,
     }
-    if f.step == 1 {
-        return prop_form(bundle, t);
-    }
-    if f.step == 2 {
-        return open_form(t, 3);
-    }
-    if f.step == 3 {
-        return width_form(bundle, t);
-    }
-    if f.step == 4 {
-        return close_form(t, 5, 0.0);
-    }
-    if f.step == 5 {
-        return last_form(t);
-    }
-    if f.step == 6 {
-        return close_form(t, 7, f.number);
-    }
-    failed()
 }
 
 // The form of all tokens up to the semicolon.
-pub fn read_form(bundle: &[u8], source: Source, c: Cursor) -> Formed
+pub fn read_form(bundle: &[u8], source: Source, c: Cursor) -> Result<(Form, Cursor), Refusal>
     ensures { FormAnswer bundle.now source c result }
 {
-    let mut f = Form {
-        step: 0,
-        number: 0.0,
-    };
+    let mut f = Form::Empty;
     let mut at = c;
     loop {
-        match read_mandatory_token(bundle, source, at) {
-            Mandatory::NoToken(e) => {
-                return Formed::NoForm(e);
+        let (t, _, d) = read_mandatory_token(bundle, source, at)?;
+        match t {
+            Token::SemiColon => {
+                return Ok((f, d));
             }
-            Mandatory::Got(t, _, d) => match t {
-                Token::SemiColon => {
-                    return Formed::IsForm(f, d);
-                }
-                _ => {
-                    f = form_next(bundle, f, t);
-                    at = d;
-                }
-            },
+            _ => {
+                f = form_next(bundle, f, t);
+                at = d;
+            }
         }
     }
 }
 
 // Stores the number of a width delta.
-fn store_delta(source: Source, x: f64, c: Cursor, n: Tally, numbers: &mut [f64]) -> ValueRead
+fn store_delta(
+    source: Source,
+    x: f64,
+    c: Cursor,
+    n: Tally,
+    numbers: &mut [f64],
+) -> Result<(PropertyValue, Cursor, Tally), Refusal>
     ensures { DeltaKept source x c n numbers.old numbers.new result }
 {
     match keep_number(numbers, n, x) {
-        Room::NoRoom => ValueRead::BadValue(refuse_reached(TABLE_FULL, NUMBERS, source, c)),
-        Room::Stored(m) => ValueRead::GoodValue(PropertyValue::WidthDelta(x), c, m),
+        None => Err(refuse_reached(TABLE_FULL, NUMBERS, source, c)),
+        Some(m) => Ok((PropertyValue::WidthDelta(x), c, m)),
     }
 }
 
@@ -166,16 +141,12 @@ pub fn read_simple_eval(
     c: Cursor,
     n: Tally,
     numbers: &mut [f64],
-) -> ValueRead
+) -> Result<(PropertyValue, Cursor, Tally), Refusal>
     ensures { EvalRead bundle.now source o c n numbers.old numbers.new result }
 {
-    match read_form(bundle, source, c) {
-        Formed::NoForm(e) => ValueRead::BadValue(e),
-        Formed::IsForm(f, d) => {
-            if f.step == 7 {
-                return store_delta(source, f.number, d, n, numbers);
-            }
-            ValueRead::BadValue(refuse(PARSE, EVAL_FORM, o))
-        }
+    let (f, d) = read_form(bundle, source, c)?;
+    match f {
+        Form::Whole(x) => store_delta(source, x, d, n, numbers),
+        _ => Err(refuse(PARSE, EVAL_FORM, o)),
     }
 }

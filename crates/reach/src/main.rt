@@ -6,8 +6,8 @@
 ghost use Rattle.std.specs.Prelude.{◌≤◌, OnOk, ◌++◌, ◌∷◌, [], decimal};
 ghost use Rattle.std.specs.Io.KnownBytes.{Appends};
 
-use color::NamedColor;
-use parser::Loaded;
+use base::refusal::Refusal;
+use color::Color;
 use std::io;
 use std::io::Write;
 use table::PropertyValue;
@@ -92,14 +92,10 @@ fn ask(bundle: &[u8], entity: &[u8]) -> Given {
     let mut m = [0u32; 4323];
     let l = parser::load(bundle, &mut r, &mut s, &mut t, &mut p, &mut x, &mut q);
     let n = counts_of(l);
-    let k = match walk::property_maps(bundle, &r, &s, &t, &p, &x, n, 13, entity, &mut m) {
-        walk::PropertyMaps::NoMaps(_) => 0,
-        walk::PropertyMaps::Maps(k) => k,
-    };
+    let k = walk::property_maps(bundle, &r, &s, &t, &p, &x, n, 13, entity, &mut m).unwrap_or(0);
     let settings = style::Settings {
         style_type: style::StyleType::Josm,
-        has_font_multiplier: false,
-        font_multiplier: 0.0,
+        font_multiplier: None,
         for_labels: false,
     };
     let all = styles::entity_styles(bundle, &r, &s, &t, &p, &x, n, 13, settings, entity);
@@ -118,10 +114,10 @@ fn ask(bundle: &[u8], entity: &[u8]) -> Given {
 }
 
 // The counts that styling reads; a refusal leaves no entries.
-fn counts_of(l: Loaded) -> Counts {
+fn counts_of(l: Result<parser::Counts, Refusal>) -> Counts {
     match l {
-        Loaded::NotLoaded(_) => five(0, 0, 0, 0, 0),
-        Loaded::Sheet(n) => five(n.rules, n.selectors, n.tests, n.properties, n.numbers),
+        Err(_) => five(0, 0, 0, 0, 0),
+        Ok(n) => five(n.rules, n.selectors, n.tests, n.properties, n.numbers),
     }
 }
 
@@ -166,7 +162,7 @@ fn put_name(out: &mut Words, n: usize, name: &[u8]) -> usize {
 // The value of property q. A kind that the sheets do not have fills all the room.
 fn put_value(out: &mut Words, n: usize, p: &Table, x: &[f64; 512], q: usize) -> usize {
     match table::property_value(&p[..], &x[..], q) {
-        PropertyValue::Shade(c) => put(out, n, color_word(NamedColor::Known(c))),
+        PropertyValue::Shade(c) => put(out, n, color_word(Some(c))),
         PropertyValue::Numbers(r) => {
             if r.from < r.to && r.to - r.from == 1 {
                 return put_number(out, n, 1, base::float_at(&x[..], r.from));
@@ -187,6 +183,14 @@ fn put_number(out: &mut Words, n: usize, kind: u64, x: f64) -> usize {
     put(out, m, 0x7ff8_0000_0000_0000)
 }
 
+// A number that may be absent.
+fn put_measure(out: &mut Words, n: usize, m: Option<f64>) -> usize {
+    match m {
+        None => put_number(out, n, 0, 0.0),
+        Some(x) => put_number(out, n, 1, x),
+    }
+}
+
 // Behind the first n, as far as there is room.
 fn put(out: &mut Words, n: usize, w: u64) -> usize {
     if n < 128 {
@@ -196,18 +200,18 @@ fn put(out: &mut Words, n: usize, w: u64) -> usize {
     128
 }
 
-fn color_word(c: NamedColor) -> u64 {
+fn color_word(c: Option<Color>) -> u64 {
     match c {
-        NamedColor::Unknown => 0,
-        NamedColor::Known(c) => 16777216 + 65536 * (c.r as u64) + 256 * (c.g as u64) + c.b as u64,
+        None => 0,
+        Some(c) => 16777216 + 65536 * (c.r as u64) + 256 * (c.g as u64) + c.b as u64,
     }
 }
 
 // The tag `layer`, to the nearest f64.
-fn put_layer(out: &mut Words, n: usize, tag: tag_number::LayerTag) -> usize {
+fn put_layer(out: &mut Words, n: usize, tag: Option<i64>) -> usize {
     match tag {
-        tag_number::LayerTag::NoLayer => put(out, n, 0),
-        tag_number::LayerTag::Layer(i) => put_number(out, n, 1, std::num::nearest_i64_to_f64(i)),
+        None => put(out, n, 0),
+        Some(i) => put_number(out, n, 1, std::num::nearest_i64_to_f64(i)),
     }
 }
 
@@ -216,7 +220,7 @@ fn style_of(bundle: &[u8], s: &Table, all: &styles::EntityStyles, name: &[u8]) -
     let mut out = [0u64; 128];
     let layers = all.layers;
     let answer = all.answer;
-    let styles::Styled::Styles(n) = answer else {
+    let Ok(n) = answer else {
         return out;
     };
     let mut i: usize = 0;
@@ -248,9 +252,9 @@ fn put_style(out: &mut Words, s: style::Style) -> usize {
     let n = put(out, n, color_word(casing));
     let n = put(out, n, color_word(text));
     let n = put_number(out, n, flag(s.is_foreground_fill), s.z_index);
-    let n = put_number(out, n, flag(s.has_opacity), s.opacity);
-    let n = put_number(out, n, flag(s.has_fill_opacity), s.fill_opacity);
-    let n = put_number(out, n, flag(s.has_width), s.width);
-    let n = put_number(out, n, flag(s.has_casing_width), s.casing_width);
-    put_number(out, n, flag(t.has_font_size), t.font_size)
+    let n = put_measure(out, n, s.opacity);
+    let n = put_measure(out, n, s.fill_opacity);
+    let n = put_measure(out, n, s.width);
+    let n = put_measure(out, n, s.casing_width);
+    put_measure(out, n, t.font_size)
 }

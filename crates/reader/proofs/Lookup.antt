@@ -16,38 +16,36 @@ use Rattle.base.specs.Choice.{pick, by-test}
 use Rattle.base.specs.Map.{lookup}
 use Rattle.base.specs.declared.Range.{Range}
 use Rattle.base.proofs.Compare.{same_lengths, rest_all}
-use Rattle.group.specs.Elim.{on-Pair}
 use Rattle.group.specs.Pair.{Ranges, ranges, pair_at, pairs_at, entries_at, named}
-use Rattle.group.specs.declared.Pair.TheVariants.{Broken, Two}
 use Rattle.entity.specs.Layout.{value_of, tags_of}
 use Rattle.entity.specs.declared.EntityRange.{EntityRange}
 use Rattle.cascade.specs.Match.{tag}
-use Rattle.reader.specs.Elim.{on-TagValue}
 use Rattle.reader.specs.Tags.{value_in}
-use Rattle.reader.specs.declared.TagValue.TheVariants.{Absent, Value}
+use Rattle.std.specs.Prelude.{Some, None}
+use Rattle.base.specs.Option.{on_option, on_option2}
 
-run_step : (n : ℕ) (s : Bytes) (at : ℕ) → 0 < n → pairs_at n s at ≡ on-Pair (pair_at s at) [] (λ a b. ranges a b ∷ pairs_at (n - 1) s b.to)
+run_step : (n : ℕ) (s : Bytes) (at : ℕ) → 0 < n → pairs_at n s at ≡ on_option2 (pair_at s at) [] (λ a b. ranges a b ∷ pairs_at (n - 1) s b.to)
 unfolding pairs_at
 run_step zero s at h = absurd (omega arith)
 run_step (suc n) s at h = let p : n ≡ suc n - 1 = omega arith in rw (sym p)
 
 module _ (s key : Bytes) (n at : ℕ) where
-  pub value_end : n ≤ 0 → Absent ≡ value_in s key (pairs_at n s at)
+  pub value_end : n ≤ 0 → None ≡ value_in s key (pairs_at n s at)
   unfolding value_in pairs_at
   value_end h = let p : n ≡ 0 = omega arith in rw p
 
   module _ (h : 0 < n) where
-    pub value_broken : pair_at s at ≡ Broken → Absent ≡ value_in s key (pairs_at n s at)
-    unfolding value_in on-Pair
+    pub value_broken : pair_at s at ≡ None → None ≡ value_in s key (pairs_at n s at)
+    unfolding value_in on_option
     value_broken e = rw (run_step n s at h, e)
 
-    module _ (a b : Range) (e : pair_at s at ≡ Two a b) (y : Bytes) (r : Bool) (p : y ≡ within a s) (q : r ≡ same key y) where
-      pub value_here : r ≡ true → Value b ≡ value_in s key (pairs_at n s at)
-      unfolding value_in on-Pair pick
+    module _ (a b : Range) (e : pair_at s at ≡ Some (a, b)) (y : Bytes) (r : Bool) (p : y ≡ within a s) (q : r ≡ same key y) where
+      pub value_here : r ≡ true → Some b ≡ value_in s key (pairs_at n s at)
+      unfolding value_in on_option pick
       value_here t = let g : same key (within a s) ≡ true = ap (same key) (sym p) ∙ sym q ∙ t in rw (run_step n s at h, e, g)
 
       pub value_next : r ≡ false → value_in s key (pairs_at (n - 1) s b.to) ≡ value_in s key (pairs_at n s at)
-      unfolding value_in on-Pair pick
+      unfolding value_in on_option pick
       value_next t = let g : same key (within a s) ≡ false = ap (same key) (sym p) ∙ sym q ∙ t in rw (run_step n s at h, e, g)
 
 -- a key of two parts
@@ -90,14 +88,14 @@ module _ (a b y : Bytes) where
 
 -- the scan finds what the map of tags has
 module _ (s key : Bytes) where
-  lookup_in : (ps : List Ranges) → lookup key (map (named s) ps) ≡ on-TagValue (value_in s key ps) none (λ r. some (within r s))
-  unfolding lookup value_in on-TagValue pick
+  lookup_in : (ps : List Ranges) → lookup key (map (named s) ps) ≡ on_option (value_in s key ps) none (λ r. some (within r s))
+  unfolding lookup value_in on_option pick
   lookup_in [] = refl
   lookup_in (p ∷ ps) = by-test (same key (within p.first s)) (λ e. rw e) (λ e. rw e (lookup_in ps))
 
   pub value_lookup :
       (n at : ℕ)
-      → lookup key (entries_at n s at) ≡ on-TagValue (value_in s key (pairs_at n s at)) none (λ r. some (within r s))
+      → lookup key (entries_at n s at) ≡ on_option (value_in s key (pairs_at n s at)) none (λ r. some (within r s))
   unfolding entries_at
   value_lookup n at = lookup_in (pairs_at n s at)
 
@@ -105,6 +103,6 @@ module _ (s key : Bytes) where
   pub tag_value :
       (e : EntityRange)
       → tag (value_of s e) key
-      ≡ on-TagValue (value_in s key (pairs_at e.count s e.tags)) none (λ r. some (within r s))
+      ≡ on_option (value_in s key (pairs_at e.count s e.tags)) none (λ r. some (within r s))
   unfolding value_of tags_of
   tag_value e = value_lookup e.count e.tags

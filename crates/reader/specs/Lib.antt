@@ -1,3 +1,2 @@
-pub mod Elim
 pub mod Tags
 pub mod Examples

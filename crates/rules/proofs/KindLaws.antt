@@ -15,13 +15,11 @@ use Rattle.grammar.specs.Reader.{skip_colors}
 use Rattle.sheet.specs.Sheet.{ObjectType}
 use Rattle.keep.specs.Lent.{type_number}
 use Rattle.input.specs.Text.{token_of, left, mandatory_of}
-use Rattle.input.specs.declared.Mandatory.TheVariants.{NoToken, Got}
-use Rattle.input.specs.declared.Past.{Past}
-use Rattle.input.specs.declared.Past.TheVariants.{Another, Beyond}
 use Rattle.input.specs.declared.Place.{Place}
 use Rattle.input.specs.declared.Source.{Source}
 use Rattle.rules.specs.Kind.{Skips, unskipped, skipped, SkipsFrom}
 use Rattle.keep.proofs.Laws.{no_token, got, yes_way, no_way}
+use Rattle.std.specs.Prelude.{Result, Ok, Err}
 
 -- a number is that of an object type, or of none
 abbrev pub Numbered : ℕ → Option ObjectType → Type 0
@@ -30,25 +28,25 @@ Numbered n o = n ≡ on_option o 0 type_number
 -- ---- colors blocks
 
 module _ (bundle : Bytes) (s : Source) (b : ℕ) where
-  pub skip_none : (c : Cursor) {e : Refusal} → mandatory_of bundle s c ≡ NoToken e → SkipsFrom bundle s b c (Another e)
+  pub skip_none : (c : Cursor) {e : Refusal} → mandatory_of bundle s c ≡ Err e → SkipsFrom bundle s b c (Err e)
   unfolding skip_colors
   skip_none c h τ zero l = absurd (omega (arith, l))
-  skip_none c {e} h τ (suc k) l = no_token (Skips bundle s b τ (Another e)) bundle s c τ _ h unskipped
+  skip_none c {e} h τ (suc k) l = no_token (Skips bundle s b τ (Err e)) bundle s c τ _ h unskipped
 
   pub skip_last :
       (c : Cursor) {d : Cursor} {t : Token} {o : Place}
-      → mandatory_of bundle s c ≡ Got t o d
+      → mandatory_of bundle s c ≡ Ok (t, o, d)
       → is_sign right_brace (token_of bundle t) ≡ true
       → left bundle s c ≤ b
-      → SkipsFrom bundle s b c (Beyond d)
+      → SkipsFrom bundle s b c (Ok d)
   unfolding skip_colors
   skip_last c h n p τ zero l = absurd (omega (arith, l))
   skip_last c {d} h n p τ (suc k) l =
-      got (Skips bundle s b τ (Beyond d)) bundle s c τ _ h λ m. yes_way (Skips bundle s b τ (Beyond d)) _ _ _ n (skipped d (omega (arith, m, p)))
+      got (Skips bundle s b τ (Ok d)) bundle s c τ _ h λ m. yes_way (Skips bundle s b τ (Ok d)) _ _ _ n (skipped d (omega (arith, m, p)))
 
   pub skip_more :
-      (c : Cursor) {d : Cursor} {t : Token} {o : Place} (r : Past)
-      → mandatory_of bundle s c ≡ Got t o d
+      (c : Cursor) {d : Cursor} {t : Token} {o : Place} (r : Result Cursor Refusal)
+      → mandatory_of bundle s c ≡ Ok (t, o, d)
       → is_sign right_brace (token_of bundle t) ≡ false
       → SkipsFrom bundle s b d r
       → SkipsFrom bundle s b c r

@@ -4,18 +4,14 @@ use native.Mathlib.Omega.{arith}
 use mathlib.Core.Path.{◌≡◌, refl, sym, ap, subst, ◌∙◌}
 use mathlib.Core.Bool.{Bool, false, cond}
 use mathlib.Core.List.{List, [], ◌∷◌}
-use mathlib.Core.Option.{Option, none, some}
+use mathlib.Core.Option.{Option as Option', none, some}
 use Rattle.base.specs.Bytes.{Bytes}
 use Rattle.base.specs.Choice.{different}
 use Rattle.base.specs.declared.Range.{Range}
 use Rattle.base.specs.declared.refusal.Refusal.{Refusal}
 use Rattle.cursor.specs.declared.Cursor.{Cursor}
 use Rattle.sheet.specs.Sheet.{ObjectType, all, canvas, meta, node, way, area}
-use Rattle.entries.specs.declared.LayerName.{LayerName}
-use Rattle.entries.specs.declared.LayerName.TheVariants.{Unnamed, Named}
 use Rattle.token_kind.specs.declared.Token.{Token}
-use Rattle.token_kind.specs.declared.ZoomLevel.{ZoomLevel}
-use Rattle.token_kind.specs.declared.ZoomLevel.TheVariants.{NoLevel, Level}
 use Rattle.grammar.specs.Token.{Token as Token', left_brace}
 use Rattle.grammar.specs.Reading.{Selector, Rule, Colors, bare, add_selector, with_zoom, with_test, with_layer, Test, id_to_object_type}
 use Rattle.grammar.specs.Input.{selector_entry, rule_entry, object_type, Answer, refused, read, on_option, after, keep}
@@ -26,34 +22,29 @@ use Rattle.token_kind.specs.contracts.Token.{the_type}
 use Rattle.input.proofs.TokenLaws.{others, not_sign, not_identifier}
 use Rattle.keep.proofs.Laws.{option_none, option_some, no_way}
 use Rattle.keep.specs.Answers.{Reads, refuses, done}
-use Rattle.keep.specs.declared.Kept.{Kept}
-use Rattle.keep.specs.declared.Kept.TheVariants.{Done}
-use Rattle.keep.specs.Elim.{with-Room, on-Room}
 use Rattle.keep.specs.Lent.{Lent, lent, type_number, level_in, layer_in, keep_selector_of, keep_rule_of, taken, put_entry}
 use Rattle.keep.specs.Source.{reading}
 use Rattle.input.specs.Source.{Spot, spot}
 use Rattle.input.specs.Text.{left, name_in, level_of, token_of, refusal_at, reached_at}
-use Rattle.input.specs.declared.Past.{Past}
-use Rattle.input.specs.declared.Past.TheVariants.{Another, Beyond}
 use Rattle.input.specs.declared.Place.{Place}
-use Rattle.keep.specs.declared.Room.TheVariants.{NoRoom, Stored}
 use Rattle.input.specs.declared.Source.{Source}
 use Rattle.keep.specs.declared.Tally.{Tally}
 use Rattle.rules.specs.Kind.{object_number, Skips, unskipped, skipped}
 use Rattle.rules.specs.Rules.{Ways, Parts, bad_part, is_closing, is_zoom, is_bracket, is_class, is_layer, Shown, Selects, no_selector, one_selector, Chooses, unchosen, last_chosen, next_chosen, Starts, bad_start, body, colors_block, object, start_of}
 use Rattle.rules.specs.declared.Choice.{Choice}
-use Rattle.rules.specs.declared.Choice.TheVariants.{Unchosen, LastChosen, NextChosen}
+use Rattle.rules.specs.declared.Choice.TheVariants.{LastChosen, NextChosen}
 use Rattle.rules.specs.declared.Part.{Part}
-use Rattle.rules.specs.declared.Part.TheVariants.{BadPart, Closing, Zoom, Bracket, Class, Layer}
-use Rattle.rules.specs.declared.Selected.{Selected}
-use Rattle.rules.specs.declared.Selected.TheVariants.{NoSelector, OneSelector}
+use Rattle.rules.specs.declared.Part.TheVariants.{Closing, Zoom, Bracket, Class, Layer}
 use Rattle.rules.specs.declared.Start.{Start}
-use Rattle.rules.specs.declared.Start.TheVariants.{BadStart, Body, ColorsBlock, Object}
+use Rattle.rules.specs.declared.Start.TheVariants.{Body, ColorsBlock, Object}
+use Rattle.std.specs.Prelude.{Option, Some, None, Result, Ok, Err}
+use Rattle.base.specs.Option.{on_option as on_option', with_option}
+use Rattle.base.proofs.Options.{ok2_first, ok2_second, ok3_first, ok3_second, ok3_third}
 
 -- ---- parts
 
 pub widen_part :
-    {bundle : Bytes} {s : Source} {b b' : ℕ} {w : Ways} {r : Part} {a : Answer (Selector × Bool) Spot Lent Refusal}
+    {bundle : Bytes} {s : Source} {b b' : ℕ} {w : Ways} {r : Result Part Refusal} {a : Answer (Selector × Bool) Spot Lent Refusal}
     → b ≤ b'
     → Parts bundle s b w r a
     → Parts bundle s b' w r a
@@ -66,9 +57,9 @@ widen_part h (is_layer a d l) = is_layer a d (omega arith)
 
 module _ (Q : Answer (Selector × Bool) Spot Lent Refusal → Type 0) {bundle : Bytes} {s : Source} {b : ℕ} {w : Ways} where
   pub part_bad :
-      {r : Part} {a : Answer (Selector × Bool) Spot Lent Refusal} {e : Refusal}
+      {r : Result Part Refusal} {a : Answer (Selector × Bool) Spot Lent Refusal} {e : Refusal}
       → Parts bundle s b w r a
-      → r ≡ BadPart e
+      → r ≡ Err e
       → ((e' : Refusal) (τ : Lent) → e ≡ e' → Q (refused e' τ))
       → Q a
   part_bad {e = e} (bad_part {e = x} {e' = y} {τ = τ} p) q k = let z : x ≡ e = cc in k y τ (sym z ∙ p)
@@ -79,9 +70,9 @@ module _ (Q : Answer (Selector × Bool) Spot Lent Refusal → Type 0) {bundle : 
   part_bad (is_layer a d l) q k = different cc
 
   pub part_closing :
-      {r : Part} {a : Answer (Selector × Bool) Spot Lent Refusal} {x : Bool} {d : Cursor}
+      {r : Result Part Refusal} {a : Answer (Selector × Bool) Spot Lent Refusal} {x : Bool} {d : Cursor}
       → Parts bundle s b w r a
-      → r ≡ Closing x d
+      → r ≡ Ok (Closing x d)
       → (left bundle s d < b → Q (w.end x (spot s d)))
       → Q a
   part_closing (bad_part p) q k = different cc
@@ -95,9 +86,9 @@ module _ (Q : Answer (Selector × Bool) Spot Lent Refusal → Type 0) {bundle : 
   part_closing (is_layer a d l) q k = different cc
 
   pub part_zoom :
-      {r : Part} {a : Answer (Selector × Bool) Spot Lent Refusal} {x y : ZoomLevel} {d : Cursor}
+      {r : Result Part Refusal} {a : Answer (Selector × Bool) Spot Lent Refusal} {x y : Option ℕ} {d : Cursor}
       → Parts bundle s b w r a
-      → r ≡ Zoom x y d
+      → r ≡ Ok (Zoom x y d)
       → (left bundle s d < b → Q (w.zoom (level_of x) (level_of y) (spot s d)))
       → Q a
   part_zoom (bad_part p) q k = different cc
@@ -114,9 +105,9 @@ module _ (Q : Answer (Selector × Bool) Spot Lent Refusal → Type 0) {bundle : 
   part_zoom (is_layer a d l) q k = different cc
 
   pub part_bracket :
-      {r : Part} {a : Answer (Selector × Bool) Spot Lent Refusal} {d : Cursor}
+      {r : Result Part Refusal} {a : Answer (Selector × Bool) Spot Lent Refusal} {d : Cursor}
       → Parts bundle s b w r a
-      → r ≡ Bracket d
+      → r ≡ Ok (Bracket d)
       → (left bundle s d < b → Q (w.bracket (spot s d)))
       → Q a
   part_bracket (bad_part p) q k = different cc
@@ -129,9 +120,9 @@ module _ (Q : Answer (Selector × Bool) Spot Lent Refusal → Type 0) {bundle : 
   part_bracket (is_layer a d l) q k = different cc
 
   pub part_class :
-      {r : Part} {a : Answer (Selector × Bool) Spot Lent Refusal} {d : Cursor}
+      {r : Result Part Refusal} {a : Answer (Selector × Bool) Spot Lent Refusal} {d : Cursor}
       → Parts bundle s b w r a
-      → r ≡ Class d
+      → r ≡ Ok (Class d)
       → (left bundle s d < b → Q (w.class (spot s d)))
       → Q a
   part_class (bad_part p) q k = different cc
@@ -144,9 +135,9 @@ module _ (Q : Answer (Selector × Bool) Spot Lent Refusal → Type 0) {bundle : 
   part_class (is_layer a d l) q k = different cc
 
   pub part_layer :
-      {r : Part} {a : Answer (Selector × Bool) Spot Lent Refusal} {x : Range} {d : Cursor}
+      {r : Result Part Refusal} {a : Answer (Selector × Bool) Spot Lent Refusal} {x : Range} {d : Cursor}
       → Parts bundle s b w r a
-      → r ≡ Layer x d
+      → r ≡ Ok (Layer x d)
       → (left bundle s d < b → Q (w.layer (name_in bundle x) (spot s d)))
       → Q a
   part_layer (bad_part p) q k = different cc
@@ -162,18 +153,18 @@ module _ (Q : Answer (Selector × Bool) Spot Lent Refusal → Type 0) {bundle : 
 
 -- ---- the words of a selector, as its parts come
 
-pub level_shown : (z : ZoomLevel) → level_in (level_of z) ≡ z
-level_shown NoLevel = refl
-level_shown (Level n) = refl
+pub level_shown : (z : Option ℕ) → level_in (level_of z) ≡ z
+level_shown None = refl
+level_shown (Some n) = refl
 
-pub shown_bare : (y : ObjectType) {kind : ℕ} → type_number y ≡ kind → Shown (bare y) kind NoLevel NoLevel Unnamed
+pub shown_bare : (y : ObjectType) {kind : ℕ} → type_number y ≡ kind → Shown (bare y) kind None None None
 shown_bare y e = record { type_is = e; min_is = refl; max_is = refl; layer_is = refl }
 
-module _ {σ : Selector} {kind : ℕ} {min max : ZoomLevel} {layer : LayerName} (h : Shown σ kind min max layer) where
-  pub shown_zoom : (a b : ZoomLevel) → Shown (with_zoom σ (level_of a) (level_of b)) kind a b layer
+module _ {σ : Selector} {kind : ℕ} {min max : Option ℕ} {layer : Option Range} (h : Shown σ kind min max layer) where
+  pub shown_zoom : (a b : Option ℕ) → Shown (with_zoom σ (level_of a) (level_of b)) kind a b layer
   shown_zoom a b = record { type_is = h.type_is; min_is = level_shown a; max_is = level_shown b; layer_is = h.layer_is }
 
-  pub shown_layer : (bundle : Bytes) (a : Range) → Shown (with_layer σ (name_in bundle a)) kind min max (Named a)
+  pub shown_layer : (bundle : Bytes) (a : Range) → Shown (with_layer σ (name_in bundle a)) kind min max (Some a)
   shown_layer bundle a = record { type_is = h.type_is; min_is = h.min_is; max_is = h.max_is; layer_is = refl }
 
   pub shown_test : (x : Test) → Shown (with_test σ x) kind min max layer
@@ -182,7 +173,7 @@ module _ {σ : Selector} {kind : ℕ} {min max : ZoomLevel} {layer : LayerName} 
 -- ---- selectors
 
 pub widen_selector :
-    {bundle : Bytes} {s : Source} {b b' : ℕ} {tables : Tally → Lent} {r : Selected} {a : Answer (Selector × Bool) Spot Lent Refusal}
+    {bundle : Bytes} {s : Source} {b b' : ℕ} {tables : Tally → Lent} {r : Result (Bool × Cursor × Tally) Refusal} {a : Answer (Selector × Bool) Spot Lent Refusal}
     → b ≤ b'
     → Selects bundle s b tables r a
     → Selects bundle s b' tables r a
@@ -191,9 +182,9 @@ widen_selector h (one_selector x d l) = one_selector x d (omega arith)
 
 module _ {B : Type 0} (Q : Answer B Spot Lent Refusal → Type 0) {bundle : Bytes} {s : Source} {b : ℕ} {tables : Tally → Lent} (k : Selector × Bool → Spot → Lent → Answer B Spot Lent Refusal) where
   pub after_unselected :
-      {r : Selected} {a : Answer (Selector × Bool) Spot Lent Refusal} {e : Refusal}
+      {r : Result (Bool × Cursor × Tally) Refusal} {a : Answer (Selector × Bool) Spot Lent Refusal} {e : Refusal}
       → Selects bundle s b tables r a
-      → r ≡ NoSelector e
+      → r ≡ Err e
       → ((e' : Refusal) (τ : Lent) → e ≡ e' → Q (refused e' τ))
       → Q (after a k)
   unfolding after
@@ -201,23 +192,23 @@ module _ {B : Type 0} (Q : Answer B Spot Lent Refusal → Type 0) {bundle : Byte
   after_unselected (one_selector x d l) q f = different cc
 
   pub after_selected :
-      {r : Selected} {a : Answer (Selector × Bool) Spot Lent Refusal} {x : Bool} {d : Cursor} {n : Tally}
+      {r : Result (Bool × Cursor × Tally) Refusal} {a : Answer (Selector × Bool) Spot Lent Refusal} {x : Bool} {d : Cursor} {n : Tally}
       → Selects bundle s b tables r a
-      → r ≡ OneSelector x d n
+      → r ≡ Ok (x, d, n)
       → ((σ : Selector) → left bundle s d ≤ b → Q (k (σ, x) (spot s d) (tables n)))
       → Q (after a k)
   unfolding after
   after_selected (no_selector p) q f = different cc
   after_selected {x = x} {d} {n} (one_selector {σ = σ} y e {n = m} l) q f =
-      let z : d ≡ e = cc in
-      let u : x ≡ y = cc in
-      let v : n ≡ m = cc in
+      let z : d ≡ e = sym (ok3_second q) in
+      let u : x ≡ y = sym (ok3_first q) in
+      let v : n ≡ m = sym (ok3_third q) in
       subst (λ m. Q (k (σ, y) (spot s e) (tables m))) v
       (subst (λ y. Q (k (σ, y) (spot s e) (tables n))) u
       (subst (λ e. Q (k (σ, x) (spot s e) (tables n))) z (f σ (subst (λ e. left bundle s e ≤ b) (sym z) l))))
 
 pub widen_choice :
-    {bundle : Bytes} {s : Source} {b b' : ℕ} {tables : Tally → Lent} {L : Selector → Spot → Lent → Answer Rule Spot Lent Refusal} {N : Selector → Token' → Place → Spot → Lent → Answer Rule Spot Lent Refusal} {r : Choice} {a : Answer Rule Spot Lent Refusal}
+    {bundle : Bytes} {s : Source} {b b' : ℕ} {tables : Tally → Lent} {L : Selector → Spot → Lent → Answer Rule Spot Lent Refusal} {N : Selector → Token' → Place → Spot → Lent → Answer Rule Spot Lent Refusal} {r : Result Choice Refusal} {a : Answer Rule Spot Lent Refusal}
     → b ≤ b'
     → Chooses bundle s b tables L N r a
     → Chooses bundle s b' tables L N r a
@@ -227,9 +218,9 @@ widen_choice h (next_chosen σ t o d l) = next_chosen σ t o d (omega arith)
 
 module _ (Q : Answer Rule Spot Lent Refusal → Type 0) {bundle : Bytes} {s : Source} {b : ℕ} {tables : Tally → Lent} {L : Selector → Spot → Lent → Answer Rule Spot Lent Refusal} {N : Selector → Token' → Place → Spot → Lent → Answer Rule Spot Lent Refusal} where
   pub choice_none :
-      {r : Choice} {a : Answer Rule Spot Lent Refusal} {e : Refusal}
+      {r : Result Choice Refusal} {a : Answer Rule Spot Lent Refusal} {e : Refusal}
       → Chooses bundle s b tables L N r a
-      → r ≡ Unchosen e
+      → r ≡ Err e
       → ((e' : Refusal) (τ : Lent) → e ≡ e' → Q (refused e' τ))
       → Q a
   choice_none {e = e} (unchosen {e = x} {e' = y} {τ = τ} p) q k = let z : x ≡ e = cc in k y τ (sym z ∙ p)
@@ -237,9 +228,9 @@ module _ (Q : Answer Rule Spot Lent Refusal → Type 0) {bundle : Bytes} {s : So
   choice_none (next_chosen σ t o d l) q k = different cc
 
   pub choice_last :
-      {r : Choice} {a : Answer Rule Spot Lent Refusal} {d : Cursor} {n : Tally}
+      {r : Result Choice Refusal} {a : Answer Rule Spot Lent Refusal} {d : Cursor} {n : Tally}
       → Chooses bundle s b tables L N r a
-      → r ≡ LastChosen d n
+      → r ≡ Ok (LastChosen d n)
       → ((σ : Selector) → left bundle s d ≤ b → Q (L σ (spot s d) (tables n)))
       → Q a
   choice_last (unchosen p) q k = different cc
@@ -251,9 +242,9 @@ module _ (Q : Answer Rule Spot Lent Refusal → Type 0) {bundle : Bytes} {s : So
   choice_last (next_chosen σ t o d l) q k = different cc
 
   pub choice_next :
-      {r : Choice} {a : Answer Rule Spot Lent Refusal} {t : Token} {o : Place} {d : Cursor} {n : Tally}
+      {r : Result Choice Refusal} {a : Answer Rule Spot Lent Refusal} {t : Token} {o : Place} {d : Cursor} {n : Tally}
       → Chooses bundle s b tables L N r a
-      → r ≡ NextChosen t o d n
+      → r ≡ Ok (NextChosen t o d n)
       → ((σ : Selector) → left bundle s d < b → Q (N σ (token_of bundle t) o (spot s d) (tables n)))
       → Q a
   choice_next (unchosen p) q k = different cc
@@ -272,9 +263,9 @@ module _ (Q : Answer Rule Spot Lent Refusal → Type 0) {bundle : Bytes} {s : So
 
 module _ (Q : Answer Rule Spot Lent Refusal → Type 0) {B C : Answer Rule Spot Lent Refusal} {O : ObjectType → Answer (Selector × Bool) Spot Lent Refusal} {K : Selector × Bool → Spot → Lent → Answer Rule Spot Lent Refusal} where
   pub start_bad :
-      {r : Start} {a : Answer Rule Spot Lent Refusal} {e : Refusal}
+      {r : Result Start Refusal} {a : Answer Rule Spot Lent Refusal} {e : Refusal}
       → Starts B C O K r a
-      → r ≡ BadStart e
+      → r ≡ Err e
       → ((e' : Refusal) (τ : Lent) → e ≡ e' → Q (refused e' τ))
       → Q a
   start_bad {e = e} (bad_start {e = x} {e' = y} {τ = τ} p) q k = let z : x ≡ e = cc in k y τ (sym z ∙ p)
@@ -282,22 +273,22 @@ module _ (Q : Answer Rule Spot Lent Refusal → Type 0) {B C : Answer Rule Spot 
   start_bad colors_block q k = different cc
   start_bad (object y p) q k = different cc
 
-  pub start_body : {r : Start} {a : Answer Rule Spot Lent Refusal} → Starts B C O K r a → r ≡ Body → Q B → Q a
+  pub start_body : {r : Result Start Refusal} {a : Answer Rule Spot Lent Refusal} → Starts B C O K r a → r ≡ Ok Body → Q B → Q a
   start_body (bad_start p) q k = different cc
   start_body body q k = k
   start_body colors_block q k = different cc
   start_body (object y p) q k = different cc
 
-  pub start_colors : {r : Start} {a : Answer Rule Spot Lent Refusal} → Starts B C O K r a → r ≡ ColorsBlock → Q C → Q a
+  pub start_colors : {r : Result Start Refusal} {a : Answer Rule Spot Lent Refusal} → Starts B C O K r a → r ≡ Ok ColorsBlock → Q C → Q a
   start_colors (bad_start p) q k = different cc
   start_colors body q k = different cc
   start_colors colors_block q k = k
   start_colors (object y p) q k = different cc
 
   pub start_object :
-      {r : Start} {a : Answer Rule Spot Lent Refusal} {kind : ℕ}
+      {r : Result Start Refusal} {a : Answer Rule Spot Lent Refusal} {kind : ℕ}
       → Starts B C O K r a
-      → r ≡ Object kind
+      → r ≡ Ok (Object kind)
       → ((y : ObjectType) → type_number y ≡ kind → Q (after (O y) K))
       → Q a
   start_object (bad_start p) q k = different cc
@@ -336,14 +327,14 @@ ways_of bundle k σ τ =
 
 -- what a call has read
 pub read_value :
-    {A : Type 0} {bundle : Bytes} {s : Source} {b : ℕ} {tables : Tally → Lent} {r : Kept} {a : Answer A Spot Lent Refusal} {d : Cursor} {n : Tally}
+    {A : Type 0} {bundle : Bytes} {s : Source} {b : ℕ} {tables : Tally → Lent} {r : Result (Cursor × Tally) Refusal} {a : Answer A Spot Lent Refusal} {d : Cursor} {n : Tally}
     → Reads bundle s b tables r a
-    → r ≡ Done d n
+    → r ≡ Ok (d, n)
     → (x : A) × ((a ≡ read x (spot s d) (tables n)) × (left bundle s d ≤ b))
 read_value (refuses p) q = different cc
 read_value {bundle = bundle} {s} {b} {tables} {d = d} {n} (done {x = x} e {n = m} l) q =
-    let z : e ≡ d = cc in
-    let w : m ≡ n = cc in
+    let z : e ≡ d = ok2_first q in
+    let w : m ≡ n = ok2_second q in
     (x, (ap (λ e. read x (spot s e) (tables m)) z ∙ ap (λ m. read x (spot s d) (tables m)) w, subst (λ e. left bundle s e ≤ b) z l))
 
 pub after_known :
@@ -358,31 +349,31 @@ after_known Q k e q = subst (λ a. Q (after a k)) (sym e) q
 
 module _ {A : Type 0} (Q : Answer A Spot Lent Refusal → Type 0) (bundle : Bytes) (s : Source) where
   selector_row :
-      (σ : Selector) (kind : ℕ) (min max : ZoomLevel) (layer : LayerName) (τ : Lent)
+      (σ : Selector) (kind : ℕ) (min max : Option ℕ) (layer : Option Range) (τ : Lent)
       → Shown σ kind min max layer
       → keep_selector_of τ.tally τ.selectors (type_number σ.object_type) (level_in σ.min_zoom) (level_in σ.max_zoom) (layer_in σ.layer_id)
       ≡ keep_selector_of τ.tally τ.selectors kind min max layer
   selector_row σ kind min max layer τ h = rw (h.type_is, h.min_is, h.max_is, h.layer_is) refl
 
   pub no_room_selector :
-      (σ : Selector) (kind : ℕ) (min max : ZoomLevel) (layer : LayerName) (c : Cursor) (τ : Lent) (k : Lent → Answer A Spot Lent Refusal) {u : List ℕ}
+      (σ : Selector) (kind : ℕ) (min max : Option ℕ) (layer : Option Range) (c : Cursor) (τ : Lent) (k : Lent → Answer A Spot Lent Refusal) {u : List ℕ}
       → Shown σ kind min max layer
-      → keep_selector_of τ.tally τ.selectors kind min max layer ≡ (NoRoom, u)
+      → keep_selector_of τ.tally τ.selectors kind min max layer ≡ (None, u)
       → Q (refused (refusal_at 20 2 (reached_at s c)) τ)
       → Q (keep (reading bundle) (selector_entry σ) (spot s c) τ k)
-  unfolding put_entry taken with-Room on-Room
+  unfolding put_entry taken with_option on_option on_option'
   no_room_selector σ kind min max layer c τ k h e q =
       option_none Q _ _ k
       (ap (λ y. taken y λ n t. lent n τ.rules t τ.tests τ.properties τ.numbers τ.colors) (selector_row σ kind min max layer τ h ∙ e))
       q
 
   pub room_selector :
-      (σ : Selector) (kind : ℕ) (min max : ZoomLevel) (layer : LayerName) (c : Cursor) (τ : Lent) (k : Lent → Answer A Spot Lent Refusal) {n : Tally} {u : List ℕ}
+      (σ : Selector) (kind : ℕ) (min max : Option ℕ) (layer : Option Range) (c : Cursor) (τ : Lent) (k : Lent → Answer A Spot Lent Refusal) {n : Tally} {u : List ℕ}
       → Shown σ kind min max layer
-      → keep_selector_of τ.tally τ.selectors kind min max layer ≡ (Stored n, u)
+      → keep_selector_of τ.tally τ.selectors kind min max layer ≡ (Some n, u)
       → Q (k (lent n τ.rules u τ.tests τ.properties τ.numbers τ.colors))
       → Q (keep (reading bundle) (selector_entry σ) (spot s c) τ k)
-  unfolding put_entry taken with-Room on-Room
+  unfolding put_entry taken with_option on_option on_option'
   room_selector σ kind min max layer c τ k h e q =
       option_some Q _ _ k
       (ap (λ y. taken y λ n t. lent n τ.rules t τ.tests τ.properties τ.numbers τ.colors) (selector_row σ kind min max layer τ h ∙ e))
@@ -390,10 +381,10 @@ module _ {A : Type 0} (Q : Answer A Spot Lent Refusal → Type 0) (bundle : Byte
 
   pub no_room_rule :
       (c : Cursor) (τ : Lent) (k : Lent → Answer A Spot Lent Refusal) {u : List ℕ}
-      → keep_rule_of τ.tally τ.rules ≡ (NoRoom, u)
+      → keep_rule_of τ.tally τ.rules ≡ (None, u)
       → Q (refused (refusal_at 20 1 (reached_at s c)) τ)
       → Q (keep (reading bundle) rule_entry (spot s c) τ k)
-  unfolding put_entry taken with-Room on-Room
+  unfolding put_entry taken with_option on_option on_option'
   no_room_rule c τ k e q =
       option_none Q _ _ k
       (ap (λ y. taken y λ n t. lent n t τ.selectors τ.tests τ.properties τ.numbers τ.colors) e)
@@ -401,10 +392,10 @@ module _ {A : Type 0} (Q : Answer A Spot Lent Refusal → Type 0) (bundle : Byte
 
   pub room_rule :
       (c : Cursor) (τ : Lent) (k : Lent → Answer A Spot Lent Refusal) {n : Tally} {u : List ℕ}
-      → keep_rule_of τ.tally τ.rules ≡ (Stored n, u)
+      → keep_rule_of τ.tally τ.rules ≡ (Some n, u)
       → Q (k (lent n u τ.selectors τ.tests τ.properties τ.numbers τ.colors))
       → Q (keep (reading bundle) rule_entry (spot s c) τ k)
-  unfolding put_entry taken with-Room on-Room
+  unfolding put_entry taken with_option on_option on_option'
   room_rule c τ k e q =
       option_some Q _ _ k
       (ap (λ y. taken y λ n t. lent n t τ.selectors τ.tests τ.properties τ.numbers τ.colors) e)
@@ -414,9 +405,9 @@ module _ {A : Type 0} (Q : Answer A Spot Lent Refusal → Type 0) (bundle : Byte
 
 module _ {A : Type 0} (Q : Answer A Spot Lent Refusal → Type 0) {bundle : Bytes} {s : Source} {b : ℕ} {τ : Lent} (k : Unit → Spot → Lent → Answer A Spot Lent Refusal) where
   pub after_unskipped :
-      {r : Past} {a : Answer Unit Spot Lent Refusal} {e : Refusal}
+      {r : Result Cursor Refusal} {a : Answer Unit Spot Lent Refusal} {e : Refusal}
       → Skips bundle s b τ r a
-      → r ≡ Another e
+      → r ≡ Err e
       → ((e' : Refusal) (τ : Lent) → e ≡ e' → Q (refused e' τ))
       → Q (after a k)
   unfolding after
@@ -424,9 +415,9 @@ module _ {A : Type 0} (Q : Answer A Spot Lent Refusal → Type 0) {bundle : Byte
   after_unskipped (skipped d l) q f = different cc
 
   pub after_skipped :
-      {r : Past} {a : Answer Unit Spot Lent Refusal} {d : Cursor}
+      {r : Result Cursor Refusal} {a : Answer Unit Spot Lent Refusal} {d : Cursor}
       → Skips bundle s b τ r a
-      → r ≡ Beyond d
+      → r ≡ Ok d
       → (left bundle s d ≤ b → Q (k tt (spot s d) τ))
       → Q (after a k)
   unfolding after
@@ -448,7 +439,7 @@ module _ (Q : Answer Rule Spot Lent Refusal → Type 0) (name : Bytes) (f : Answ
   unfolding object_number on_option
   no_object = go (id_to_object_type name)
     where
-      go : (o : Option ObjectType) → on_option o 0 type_number ≡ 0 → Q (after f K) → Q (after (on_option o f O) K)
+      go : (o : Option' ObjectType) → on_option o 0 type_number ≡ 0 → Q (after f K) → Q (after (on_option o f O) K)
       go none e q = q
       go (some y) e q = absurd (positive y e)
 
@@ -456,7 +447,7 @@ module _ (Q : Answer Rule Spot Lent Refusal → Type 0) (name : Bytes) (f : Answ
   unfolding object_number on_option
   an_object {kind} = go (id_to_object_type name)
     where
-      go : (o : Option ObjectType) → on_option o 0 type_number ≡ kind → (kind ≡ 0 → ⊥) → ((y : ObjectType) → type_number y ≡ kind → Q (after (O y) K)) → Q (after (on_option o f O) K)
+      go : (o : Option' ObjectType) → on_option o 0 type_number ≡ kind → (kind ≡ 0 → ⊥) → ((y : ObjectType) → type_number y ≡ kind → Q (after (O y) K)) → Q (after (on_option o f O) K)
       go none e n q = absurd (n (sym e))
       go (some y) e n q = q y e
 
@@ -474,7 +465,7 @@ module _ (bundle : Bytes) (k : ℕ) (Γ : Colors) where
       cond σ.1 (read_mandatory_token (reading bundle) e τ λ t o f. rule_next σ.0 t o f τ) (read_body (reading bundle) k Γ (σ.0 ∷ []) e τ)
 
   pub rule_starts :
-      (τ : Lent) (t : Token') (o : Place) (d : Spot) {r : Start}
+      (τ : Lent) (t : Token') (o : Place) (d : Spot) {r : Result Start Refusal}
       → Starts (read_body (reading bundle) k Γ [] d τ) (read_block (reading bundle) k d τ) (rule_object d τ) rule_chosen r
       (start_of bundle o τ (read_body (reading bundle) k Γ [] d τ) (read_block (reading bundle) k d τ) (rule_object d τ) rule_chosen t)
       → Starts (read_body (reading bundle) k Γ [] d τ) (read_block (reading bundle) k d τ) (rule_object d τ) rule_chosen r

@@ -1,5 +1,5 @@
 -- What is promised of colors blocks and names of object types.
-use Rattle.std.specs.Prelude.{ℕ, ◌<◌, ◌≤◌}
+use Rattle.std.specs.Prelude.{ℕ, ◌<◌, ◌≤◌, Result, Ok, Err}
 use Rattle.base.specs.Bytes.{Bytes}
 use Rattle.base.specs.declared.refusal.Refusal.{Refusal}
 use Rattle.cursor.specs.declared.Cursor.{Cursor}
@@ -10,8 +10,6 @@ use Rattle.keep.specs.Lent.{Lent, type_number}
 use Rattle.keep.specs.Source.{reading}
 use Rattle.input.specs.Source.{Spot, spot}
 use Rattle.input.specs.Text.{left}
-use Rattle.input.specs.declared.Past.{Past}
-use Rattle.input.specs.declared.Past.TheVariants.{Another, Beyond}
 use Rattle.input.specs.declared.Source.{Source}
 
 -- the number of the object type that a name has, and 0 without
@@ -21,13 +19,13 @@ object_number a = on_option (id_to_object_type a) 0 type_number
 -- ---- colors blocks
 
 -- the answer is the reader's: its refusal, or its cursor, behind which no more than so many bytes are left
-pub data Skips (bundle : Bytes) (s : Source) (bound : ℕ) (τ : Lent) : Past → Answer Unit Spot Lent Refusal → Type 0 where
-  unskipped : {e : Refusal} → Skips bundle s bound τ (Another e) (refused e τ)
-  skipped : (d : Cursor) → left bundle s d ≤ bound → Skips bundle s bound τ (Beyond d) (read tt (spot s d) τ)
+pub data Skips (bundle : Bytes) (s : Source) (bound : ℕ) (τ : Lent) : Result Cursor Refusal → Answer Unit Spot Lent Refusal → Type 0 where
+  unskipped : {e : Refusal} → Skips bundle s bound τ (Err e) (refused e τ)
+  skipped : (d : Cursor) → left bundle s d ≤ bound → Skips bundle s bound τ (Ok d) (read tt (spot s d) τ)
 
 -- with any fuel that is enough
-abbrev pub SkipsFrom : Bytes → Source → ℕ → Cursor → Past → Type 0
+abbrev pub SkipsFrom : Bytes → Source → ℕ → Cursor → Result Cursor Refusal → Type 0
 SkipsFrom bundle s bound c r = (τ : Lent) (k : ℕ) → left bundle s c < k → Skips bundle s bound τ r (skip_colors (reading bundle) k (spot s c) τ)
 
-abbrev pub ColorsSkipped : Bytes → Source → Cursor → Past → Type 0
+abbrev pub ColorsSkipped : Bytes → Source → Cursor → Result Cursor Refusal → Type 0
 ColorsSkipped bundle s c r = SkipsFrom bundle s (left bundle s c) c r

@@ -1,15 +1,13 @@
 -- What the readers of selectors and rules promise.
-use Rattle.std.specs.Prelude.{ℕ, suc, ◌<◌, ◌≤◌, ◌≡◌, Bool, true, false, cond, List, Float}
-use Rattle.std.proofs.Math.Option.{Option}
+use Rattle.std.specs.Prelude.{ℕ, suc, ◌<◌, ◌≤◌, ◌≡◌, Bool, true, false, cond, List, Float, Option, Result, Ok, Err}
+use Rattle.std.proofs.Math.Option.{Option as Option'}
 use Rattle.base.specs.Bytes.{Bytes, within}
 use Rattle.base.specs.declared.Range.{Range}
 use Rattle.base.specs.declared.refusal.Refusal.{Refusal}
 use Rattle.cursor.specs.declared.Cursor.{Cursor}
 use Rattle.sheet.specs.Sheet.{ObjectType}
-use Rattle.entries.specs.declared.LayerName.{LayerName}
 use Rattle.token_kind.specs.declared.Token.{Token}
 use Rattle.token_kind.specs.declared.Token.TheVariants.{Identifier}
-use Rattle.token_kind.specs.declared.ZoomLevel.{ZoomLevel}
 use Rattle.grammar.specs.Token.{Name, Token as Token', left_bracket, left_brace, colon, double_colon, comma}
 use Rattle.grammar.specs.View.{on_sign, on_identifier, on_zoom_range}
 use Rattle.grammar.specs.Reading.{Selector, Property, Rule, Colors, bare, id_to_object_type}
@@ -24,14 +22,11 @@ use Rattle.input.specs.declared.Source.{Source}
 use Rattle.keep.specs.declared.Tally.{Tally}
 use Rattle.keep.specs.Answers.{Reads}
 use Rattle.rules.specs.declared.Choice.{Choice}
-use Rattle.rules.specs.declared.Choice.TheVariants.{Unchosen, LastChosen, NextChosen}
-use Rattle.keep.specs.declared.Kept.{Kept}
+use Rattle.rules.specs.declared.Choice.TheVariants.{LastChosen, NextChosen}
 use Rattle.rules.specs.declared.Part.{Part}
-use Rattle.rules.specs.declared.Part.TheVariants.{BadPart, Closing, Zoom, Bracket, Class, Layer}
-use Rattle.rules.specs.declared.Selected.{Selected}
-use Rattle.rules.specs.declared.Selected.TheVariants.{NoSelector, OneSelector}
+use Rattle.rules.specs.declared.Part.TheVariants.{Closing, Zoom, Bracket, Class, Layer}
 use Rattle.rules.specs.declared.Start.{Start}
-use Rattle.rules.specs.declared.Start.TheVariants.{BadStart, Body, ColorsBlock, Object}
+use Rattle.rules.specs.declared.Start.TheVariants.{Body, ColorsBlock, Object}
 
 abbrev Ans : Type 0 → Type 0
 Ans A = Answer A Spot Lent Refusal
@@ -40,28 +35,28 @@ Ans A = Answer A Spot Lent Refusal
 
 pub record Ways : Type 0 where
   pub end : Bool → Spot → Ans (Selector × Bool)
-  pub zoom : Option ℕ → Option ℕ → Spot → Ans (Selector × Bool)
+  pub zoom : Option' ℕ → Option' ℕ → Spot → Ans (Selector × Bool)
   pub bracket : Spot → Ans (Selector × Bool)
   pub class : Spot → Ans (Selector × Bool)
   pub layer : Name → Spot → Ans (Selector × Bool)
 
-pub data Parts (bundle : Bytes) (s : Source) (bound : ℕ) (w : Ways) : Part → Ans (Selector × Bool) → Type 0 where
-  bad_part : {e e' : Refusal} {τ : Lent} → e ≡ e' → Parts bundle s bound w (BadPart e) (refused e' τ)
-  is_closing : (b : Bool) (d : Cursor) → left bundle s d < bound → Parts bundle s bound w (Closing b d) (w.end b (spot s d))
-  is_zoom : (x y : ZoomLevel) (d : Cursor) → left bundle s d < bound → Parts bundle s bound w (Zoom x y d) (w.zoom (level_of x) (level_of y) (spot s d))
-  is_bracket : (d : Cursor) → left bundle s d < bound → Parts bundle s bound w (Bracket d) (w.bracket (spot s d))
-  is_class : (d : Cursor) → left bundle s d < bound → Parts bundle s bound w (Class d) (w.class (spot s d))
-  is_layer : (a : Range) (d : Cursor) → left bundle s d < bound → Parts bundle s bound w (Layer a d) (w.layer (name_in bundle a) (spot s d))
+pub data Parts (bundle : Bytes) (s : Source) (bound : ℕ) (w : Ways) : Result Part Refusal → Ans (Selector × Bool) → Type 0 where
+  bad_part : {e e' : Refusal} {τ : Lent} → e ≡ e' → Parts bundle s bound w (Err e) (refused e' τ)
+  is_closing : (b : Bool) (d : Cursor) → left bundle s d < bound → Parts bundle s bound w (Ok (Closing b d)) (w.end b (spot s d))
+  is_zoom : (x y : Option ℕ) (d : Cursor) → left bundle s d < bound → Parts bundle s bound w (Ok (Zoom x y d)) (w.zoom (level_of x) (level_of y) (spot s d))
+  is_bracket : (d : Cursor) → left bundle s d < bound → Parts bundle s bound w (Ok (Bracket d)) (w.bracket (spot s d))
+  is_class : (d : Cursor) → left bundle s d < bound → Parts bundle s bound w (Ok (Class d)) (w.class (spot s d))
+  is_layer : (a : Range) (d : Cursor) → left bundle s d < bound → Parts bundle s bound w (Ok (Layer a d)) (w.layer (name_in bundle a) (spot s d))
 
-abbrev pub AfterColon : Bytes → Source → Cursor → Part → Type 0
+abbrev pub AfterColon : Bytes → Source → Cursor → Result Part Refusal → Type 0
 AfterColon bundle s c r =
     (τ : Lent) (w : Ways) → Parts bundle s (left bundle s c) w r (read_identifier (reading bundle) (spot s c) τ λ a e. w.class e)
 
-abbrev pub AfterColons : Bytes → Source → Cursor → Part → Type 0
+abbrev pub AfterColons : Bytes → Source → Cursor → Result Part Refusal → Type 0
 AfterColons bundle s c r =
     (τ : Lent) (w : Ways) → Parts bundle s (left bundle s c) w r (read_identifier (reading bundle) (spot s c) τ λ a e. w.layer a e)
 
-abbrev pub PartRead : Bytes → Source → Cursor → Part → Type 0
+abbrev pub PartRead : Bytes → Source → Cursor → Result Part Refusal → Type 0
 PartRead bundle s c r =
     (τ : Lent) (w : Ways)
     → Parts bundle s (left bundle s c) w r
@@ -77,30 +72,30 @@ PartRead bundle s c r =
 -- ---- selectors
 
 -- the words of a selector, but its tests
-pub record Shown (σ : Selector) (kind : ℕ) (min max : ZoomLevel) (layer : LayerName) : Type 0 where
+pub record Shown (σ : Selector) (kind : ℕ) (min max : Option ℕ) (layer : Option Range) : Type 0 where
   pub type_is : type_number σ.object_type ≡ kind
   pub min_is : level_in σ.min_zoom ≡ min
   pub max_is : level_in σ.max_zoom ≡ max
   pub layer_is : layer_in σ.layer_id ≡ layer
 
-pub data Selects (bundle : Bytes) (s : Source) (bound : ℕ) (tables : Tally → Lent) : Selected → Ans (Selector × Bool) → Type 0 where
-  no_selector : {e e' : Refusal} {τ : Lent} → e ≡ e' → Selects bundle s bound tables (NoSelector e) (refused e' τ)
+pub data Selects (bundle : Bytes) (s : Source) (bound : ℕ) (tables : Tally → Lent) : Result (Bool × Cursor × Tally) Refusal → Ans (Selector × Bool) → Type 0 where
+  no_selector : {e e' : Refusal} {τ : Lent} → e ≡ e' → Selects bundle s bound tables (Err e) (refused e' τ)
   one_selector :
       {σ : Selector} (b : Bool) (d : Cursor) {n : Tally}
       → left bundle s d ≤ bound
-      → Selects bundle s bound tables (OneSelector b d n) (read (σ, b) (spot s d) (tables n))
+      → Selects bundle s bound tables (Ok (b, d, n)) (read (σ, b) (spot s d) (tables n))
 
 abbrev pub at_selectors : Lent → List ℕ → List ℕ → List Float → Tally → Lent
 at_selectors τ ss ts xs n = lent n τ.rules ss ts τ.properties xs τ.colors
 
-abbrev pub SelectorKept : Source → ℕ → ZoomLevel → ZoomLevel → LayerName → Bool → Cursor → Tally → List ℕ → List ℕ → Selected → Type 0
+abbrev pub SelectorKept : Source → ℕ → Option ℕ → Option ℕ → Option Range → Bool → Cursor → Tally → List ℕ → List ℕ → Result (Bool × Cursor × Tally) Refusal → Type 0
 SelectorKept s kind min max layer more c n ss ss' r =
     (bundle : Bytes) (τ : Lent) (σ : Selector)
     → Shown σ kind min max layer
     → Selects bundle s (left bundle s c) (at_selectors τ ss' τ.tests τ.numbers) r
     (keep_selector (reading bundle) σ more (spot s c) (at_selectors τ ss τ.tests τ.numbers n))
 
-abbrev pub SelectorRead : Bytes → Source → ℕ → Cursor → Tally → List ℕ → List ℕ → List Float → List ℕ → List ℕ → List Float → Selected → Type 0
+abbrev pub SelectorRead : Bytes → Source → ℕ → Cursor → Tally → List ℕ → List ℕ → List Float → List ℕ → List ℕ → List Float → Result (Bool × Cursor × Tally) Refusal → Type 0
 SelectorRead bundle s kind c n ss ts xs ss' ts' xs' r =
     (τ : Lent) (k : ℕ) (y : ObjectType)
     → type_number y ≡ kind
@@ -108,24 +103,24 @@ SelectorRead bundle s kind c n ss ts xs ss' ts' xs' r =
     → Selects bundle s (left bundle s c) (at_selectors τ ss' ts' xs') r (read_parts (reading bundle) k (bare y) (spot s c) (at_selectors τ ss ts xs n))
 
 -- what the last selector and the start of another lead to
-pub data Chooses (bundle : Bytes) (s : Source) (bound : ℕ) (tables : Tally → Lent) (L : Selector → Spot → Lent → Ans Rule) (N : Selector → Token' → Place → Spot → Lent → Ans Rule) : Choice → Ans Rule → Type 0 where
-  unchosen : {e e' : Refusal} {τ : Lent} → e ≡ e' → Chooses bundle s bound tables L N (Unchosen e) (refused e' τ)
+pub data Chooses (bundle : Bytes) (s : Source) (bound : ℕ) (tables : Tally → Lent) (L : Selector → Spot → Lent → Ans Rule) (N : Selector → Token' → Place → Spot → Lent → Ans Rule) : Result Choice Refusal → Ans Rule → Type 0 where
+  unchosen : {e e' : Refusal} {τ : Lent} → e ≡ e' → Chooses bundle s bound tables L N (Err e) (refused e' τ)
   last_chosen :
       (σ : Selector) (d : Cursor) {n : Tally}
       → left bundle s d ≤ bound
-      → Chooses bundle s bound tables L N (LastChosen d n) (L σ (spot s d) (tables n))
+      → Chooses bundle s bound tables L N (Ok (LastChosen d n)) (L σ (spot s d) (tables n))
   next_chosen :
       (σ : Selector) (t : Token) (o : Place) (d : Cursor) {n : Tally}
       → left bundle s d < bound
-      → Chooses bundle s bound tables L N (NextChosen t o d n) (N σ (token_of bundle t) o (spot s d) (tables n))
+      → Chooses bundle s bound tables L N (Ok (NextChosen t o d n)) (N σ (token_of bundle t) o (spot s d) (tables n))
 
-abbrev pub NextRead : Bytes → Source → Cursor → Tally → Choice → Type 0
+abbrev pub NextRead : Bytes → Source → Cursor → Tally → Result Choice Refusal → Type 0
 NextRead bundle s c n r =
     (tables : Tally → Lent) (L : Selector → Spot → Lent → Ans Rule) (N : Selector → Token' → Place → Spot → Lent → Ans Rule) (σ : Selector)
     → Chooses bundle s (left bundle s c) tables L N r
     (read_mandatory_token (reading bundle) (spot s c) (tables n) λ t o f. N σ t o f (tables n))
 
-abbrev pub ChoiceRead : Bytes → Source → ℕ → Cursor → Tally → List ℕ → List ℕ → List Float → List ℕ → List ℕ → List Float → Choice → Type 0
+abbrev pub ChoiceRead : Bytes → Source → ℕ → Cursor → Tally → List ℕ → List ℕ → List Float → List ℕ → List ℕ → List Float → Result Choice Refusal → Type 0
 ChoiceRead bundle s kind c n ss ts xs ss' ts' xs' r =
     (τ : Lent) (k : ℕ) (y : ObjectType) (L : Selector → Spot → Lent → Ans Rule) (N : Selector → Token' → Place → Spot → Lent → Ans Rule)
     → type_number y ≡ kind
@@ -136,13 +131,13 @@ ChoiceRead bundle s kind c n ss ts xs ss' ts' xs' r =
 
 -- ---- the start of a selector
 
-pub data Starts (B C : Ans Rule) (O : ObjectType → Ans (Selector × Bool)) (K : Selector × Bool → Spot → Lent → Ans Rule) : Start → Ans Rule → Type 0 where
-  bad_start : {e e' : Refusal} {τ : Lent} → e ≡ e' → Starts B C O K (BadStart e) (refused e' τ)
-  body : Starts B C O K Body B
-  colors_block : Starts B C O K ColorsBlock C
-  object : (y : ObjectType) {kind : ℕ} → type_number y ≡ kind → Starts B C O K (Object kind) (after (O y) K)
+pub data Starts (B C : Ans Rule) (O : ObjectType → Ans (Selector × Bool)) (K : Selector × Bool → Spot → Lent → Ans Rule) : Result Start Refusal → Ans Rule → Type 0 where
+  bad_start : {e e' : Refusal} {τ : Lent} → e ≡ e' → Starts B C O K (Err e) (refused e' τ)
+  body : Starts B C O K (Ok Body) B
+  colors_block : Starts B C O K (Ok ColorsBlock) C
+  object : (y : ObjectType) {kind : ℕ} → type_number y ≡ kind → Starts B C O K (Ok (Object kind)) (after (O y) K)
 
-abbrev pub WordStart : Bytes → Range → Place → Start → Type 0
+abbrev pub WordStart : Bytes → Range → Place → Result Start Refusal → Type 0
 WordStart bundle a o r =
     (τ : Lent) (B C : Ans Rule) (O : ObjectType → Ans (Selector × Bool)) (K : Selector × Bool → Spot → Lent → Ans Rule)
     → Starts B C O K r
@@ -157,7 +152,7 @@ start_of bundle o τ B C O K t =
     (on_identifier t (λ a. on_option (id_to_object_type a.bytes) (fail (reading bundle) object_type o τ) O) (unexpected_token (reading bundle) o τ))
     K))
 
-abbrev pub StartRead : Bytes → Token → Place → Start → Type 0
+abbrev pub StartRead : Bytes → Token → Place → Result Start Refusal → Type 0
 StartRead bundle t o r =
     (τ : Lent) (B C : Ans Rule) (O : ObjectType → Ans (Selector × Bool)) (K : Selector × Bool → Spot → Lent → Ans Rule)
     → Starts B C O K r (start_of bundle o τ B C O K (token_of bundle t))
@@ -167,20 +162,20 @@ StartRead bundle t o r =
 abbrev pub at_body : Lent → List ℕ → List ℕ → List Float → Tally → Lent
 at_body τ rs ps xs n = lent n rs τ.selectors τ.tests ps xs τ.colors
 
-abbrev pub RuleKept : Source → Cursor → Tally → List ℕ → List ℕ → Kept → Type 0
+abbrev pub RuleKept : Source → Cursor → Tally → List ℕ → List ℕ → Result (Cursor × Tally) Refusal → Type 0
 RuleKept s c n rs rs' r =
     (bundle : Bytes) (τ : Lent) (ss : List Selector) (ps : List Property)
     → Reads bundle s (left bundle s c) (at_body τ rs' τ.properties τ.numbers) r
     (keep_rule (reading bundle) ss ps (spot s c) (at_body τ rs τ.properties τ.numbers n))
 
-abbrev pub BodyRead : Bytes → Source → Cursor → Tally → Colors → List ℕ → List ℕ → List Float → List ℕ → List ℕ → List Float → Kept → Type 0
+abbrev pub BodyRead : Bytes → Source → Cursor → Tally → Colors → List ℕ → List ℕ → List Float → List ℕ → List ℕ → List Float → Result (Cursor × Tally) Refusal → Type 0
 BodyRead bundle s c n Γ rs ps xs rs' ps' xs' r =
     (τ : Lent) (k : ℕ) (ss : List Selector)
     → left bundle s c < k
     → Reads bundle s (left bundle s c) (at_body τ rs' ps' xs') r
     (read_body (reading bundle) k Γ ss (spot s c) (at_body τ rs ps xs n))
 
-abbrev pub BlockRead : Bytes → Source → Cursor → Tally → List ℕ → List ℕ → Kept → Type 0
+abbrev pub BlockRead : Bytes → Source → Cursor → Tally → List ℕ → List ℕ → Result (Cursor × Tally) Refusal → Type 0
 BlockRead bundle s c n rs rs' r =
     (τ : Lent) (k : ℕ)
     → left bundle s c < k
@@ -188,7 +183,7 @@ BlockRead bundle s c n rs rs' r =
     (read_block (reading bundle) k (spot s c) (at_body τ rs τ.properties τ.numbers n))
 
 -- at the start t of a selector, which begins at o; the colours are those of the table
-abbrev pub RuleRead : Bytes → Source → Token → Place → Cursor → Tally → List ℕ → List ℕ → List ℕ → List ℕ → List ℕ → List Float → List ℕ → List ℕ → List ℕ → List ℕ → List Float → Kept → Type 0
+abbrev pub RuleRead : Bytes → Source → Token → Place → Cursor → Tally → List ℕ → List ℕ → List ℕ → List ℕ → List ℕ → List Float → List ℕ → List ℕ → List ℕ → List ℕ → List Float → Result (Cursor × Tally) Refusal → Type 0
 RuleRead bundle s t o c n cs rs ss ts ps xs rs' ss' ts' ps' xs' r =
     (k : ℕ)
     → left bundle s c < k

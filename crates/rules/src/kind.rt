@@ -3,10 +3,11 @@ ghost use Rattle.std.specs.Prelude.{◌≡◌};
 ghost use Rattle.base.specs.Bytes.{ascii, same, within};
 ghost use Rattle.rules.specs.Kind.{object_number, ColorsSkipped};
 
+use base::refusal::Refusal;
 use base::{Range, same_bytes};
 use cursor::Cursor;
+use input::Source;
 use input::tokens::read_mandatory_token;
-use input::{Mandatory, Past, Source};
 use token_kind::Token;
 
 // The number of an object type, and 0 for a name that has none.
@@ -50,23 +51,19 @@ pub fn is_colors(bundle: &[u8], a: Range) -> bool
 }
 
 // Past the closing brace of a colors block.
-pub fn skip_colors(bundle: &[u8], source: Source, c: Cursor) -> Past
+pub fn skip_colors(bundle: &[u8], source: Source, c: Cursor) -> Result<Cursor, Refusal>
     ensures { ColorsSkipped bundle.now source c result }
 {
     let mut at = c;
     loop {
-        match read_mandatory_token(bundle, source, at) {
-            Mandatory::NoToken(e) => {
-                return Past::Another(e);
+        let (t, _, d) = read_mandatory_token(bundle, source, at)?;
+        match t {
+            Token::RightBrace => {
+                return Ok(d);
             }
-            Mandatory::Got(t, _, d) => match t {
-                Token::RightBrace => {
-                    return Past::Beyond(d);
-                }
-                _ => {
-                    at = d;
-                }
-            },
+            _ => {
+                at = d;
+            }
         }
     }
 }

@@ -7,39 +7,29 @@ ghost use Rattle.rules.specs.Rules.{PartRead, AfterColon, AfterColons, SelectorK
 use base::Range;
 use base::refusal::{OBJECT_TYPE, PARSE, RULES, Refusal, SELECTORS, TABLE_FULL, UNEXPECTED_TOKEN};
 use cursor::Cursor;
-use entries::LayerName;
 use input::tokens::{read_identifier, read_mandatory_token, refuse, refuse_reached};
-use input::{Mandatory, Past, Place, Source, Word};
-use keep::{Kept, Room, Tally, keep_rule, keep_selector};
+use input::{Place, Source};
+use keep::{Tally, keep_rule, keep_selector};
 use kind::{is_colors, object_type, skip_colors};
 use properties::read_properties;
 use tests::read_test;
-use token_kind::{Token, ZoomLevel};
+use token_kind::Token;
 
 mod kind;
 
 // A part of a selector: its end, and whether more selectors come; a zoom range; a test's bracket; a class; the layer's name.
 #[derive(Clone, Copy)]
 pub enum Part {
-    BadPart(Refusal),
     Closing(bool, Cursor),
-    Zoom(ZoomLevel, ZoomLevel, Cursor),
+    Zoom(Option<u8>, Option<u8>, Cursor),
     Bracket(Cursor),
     Class(Cursor),
     Layer(Range, Cursor),
 }
 
-// A selector that was stored, and whether more come.
-#[derive(Clone, Copy)]
-pub enum Selected {
-    NoSelector(Refusal),
-    OneSelector(bool, Cursor, Tally),
-}
-
 // The last selector of a rule, or the start of the next: its first token, where that begins, and the place behind it.
 #[derive(Clone, Copy)]
 pub enum Choice {
-    Unchosen(Refusal),
     LastChosen(Cursor, Tally),
     NextChosen(Token, Place, Cursor, Tally),
 }
@@ -47,46 +37,39 @@ pub enum Choice {
 // What the first token of a selector begins: the properties, a colors block, or a selector of an object type.
 #[derive(Clone, Copy)]
 pub enum Start {
-    BadStart(Refusal),
     Body,
     ColorsBlock,
     Object(u8),
 }
 
 // The class behind a colon, which is dropped.
-fn read_class(bundle: &[u8], source: Source, c: Cursor) -> Part
+fn read_class(bundle: &[u8], source: Source, c: Cursor) -> Result<Part, Refusal>
     ensures { AfterColon bundle.now source c result }
 {
-    match read_identifier(bundle, source, c) {
-        Word::NoWord(e) => Part::BadPart(e),
-        Word::IsWord(_, d) => Part::Class(d),
-    }
+    let (_, d) = read_identifier(bundle, source, c)?;
+    Ok(Part::Class(d))
 }
 
 // The layer's name behind two colons.
-fn read_layer(bundle: &[u8], source: Source, c: Cursor) -> Part
+fn read_layer(bundle: &[u8], source: Source, c: Cursor) -> Result<Part, Refusal>
     ensures { AfterColons bundle.now source c result }
 {
-    match read_identifier(bundle, source, c) {
-        Word::NoWord(e) => Part::BadPart(e),
-        Word::IsWord(a, d) => Part::Layer(a, d),
-    }
+    let (a, d) = read_identifier(bundle, source, c)?;
+    Ok(Part::Layer(a, d))
 }
 
-fn read_part(bundle: &[u8], source: Source, c: Cursor) -> Part
+fn read_part(bundle: &[u8], source: Source, c: Cursor) -> Result<Part, Refusal>
     ensures { PartRead bundle.now source c result }
 {
-    match read_mandatory_token(bundle, source, c) {
-        Mandatory::NoToken(e) => Part::BadPart(e),
-        Mandatory::Got(t, o, d) => match t {
-            Token::LeftBrace => Part::Closing(false, d),
-            Token::Comma => Part::Closing(true, d),
-            Token::ZoomRange(a, b) => Part::Zoom(a, b, d),
-            Token::LeftBracket => Part::Bracket(d),
-            Token::Colon => read_class(bundle, source, d),
-            Token::DoubleColon => read_layer(bundle, source, d),
-            _ => Part::BadPart(refuse(PARSE, UNEXPECTED_TOKEN, o)),
-        },
+    let (t, o, d) = read_mandatory_token(bundle, source, c)?;
+    match t {
+        Token::LeftBrace => Ok(Part::Closing(false, d)),
+        Token::Comma => Ok(Part::Closing(true, d)),
+        Token::ZoomRange(a, b) => Ok(Part::Zoom(a, b, d)),
+        Token::LeftBracket => Ok(Part::Bracket(d)),
+        Token::Colon => read_class(bundle, source, d),
+        Token::DoubleColon => read_layer(bundle, source, d),
+        _ => Err(refuse(PARSE, UNEXPECTED_TOKEN, o)),
     }
 }
 
@@ -94,19 +77,19 @@ fn read_part(bundle: &[u8], source: Source, c: Cursor) -> Part
 fn store_selector(
     source: Source,
     kind: u8,
-    min: ZoomLevel,
-    max: ZoomLevel,
-    layer: LayerName,
+    min: Option<u8>,
+    max: Option<u8>,
+    layer: Option<Range>,
     more: bool,
     c: Cursor,
     n: Tally,
     selectors: &mut [u32],
-) -> Selected
+) -> Result<(bool, Cursor, Tally), Refusal>
     ensures { SelectorKept source kind min max layer more c n selectors.old selectors.new result }
 {
     match keep_selector(selectors, n, kind, min, max, layer) {
-        Room::NoRoom => Selected::NoSelector(refuse_reached(TABLE_FULL, SELECTORS, source, c)),
-        Room::Stored(m) => Selected::OneSelector(more, c, m),
+        None => Err(refuse_reached(TABLE_FULL, SELECTORS, source, c)),
+        Some(m) => Ok((more, c, m)),
     }
 }
 
@@ -120,19 +103,17 @@ fn read_selector(
     selectors: &mut [u32],
     tests: &mut [u32],
     numbers: &mut [f64],
-) -> Selected
+) -> Result<(bool, Cursor, Tally), Refusal>
     ensures { SelectorRead bundle.now source kind c n selectors.old tests.old numbers.old selectors.new tests.new numbers.new result }
 {
-    let mut min = ZoomLevel::NoLevel;
-    let mut max = ZoomLevel::NoLevel;
-    let mut layer = LayerName::Unnamed;
+    let mut min = None;
+    let mut max = None;
+    let mut layer = None;
     let mut at = c;
     let mut k = n;
     loop {
-        match read_part(bundle, source, at) {
-            Part::BadPart(e) => {
-                return Selected::NoSelector(e);
-            }
+        let part = read_part(bundle, source, at)?;
+        match part {
             Part::Closing(more, d) => {
                 return store_selector(source, kind, min, max, layer, more, d, k, selectors);
             }
@@ -141,20 +122,16 @@ fn read_selector(
                 max = b;
                 at = d;
             }
-            Part::Bracket(d) => match read_test(bundle, source, d, k, tests, numbers) {
-                Kept::Refused(e) => {
-                    return Selected::NoSelector(e);
-                }
-                Kept::Done(f, m) => {
-                    at = f;
-                    k = m;
-                }
-            },
+            Part::Bracket(d) => {
+                let (f, m) = read_test(bundle, source, d, k, tests, numbers)?;
+                at = f;
+                k = m;
+            }
             Part::Class(d) => {
                 at = d;
             }
             Part::Layer(a, d) => {
-                layer = LayerName::Named(a);
+                layer = Some(a);
                 at = d;
             }
         }
@@ -171,61 +148,60 @@ fn read_choice(
     selectors: &mut [u32],
     tests: &mut [u32],
     numbers: &mut [f64],
-) -> Choice
+) -> Result<Choice, Refusal>
     ensures { ChoiceRead bundle.now source kind c n selectors.old tests.old numbers.old selectors.new tests.new numbers.new result }
 {
-    match read_selector(bundle, source, kind, c, n, selectors, tests, numbers) {
-        Selected::NoSelector(e) => Choice::Unchosen(e),
-        Selected::OneSelector(more, d, m) => {
-            if more {
-                return next_choice(bundle, source, d, m);
-            }
-            Choice::LastChosen(d, m)
-        }
+    let (more, d, m) = read_selector(bundle, source, kind, c, n, selectors, tests, numbers)?;
+    if more {
+        return next_choice(bundle, source, d, m);
     }
+    Ok(Choice::LastChosen(d, m))
 }
 
 // The first token of the next selector.
-fn next_choice(bundle: &[u8], source: Source, c: Cursor, n: Tally) -> Choice
+fn next_choice(bundle: &[u8], source: Source, c: Cursor, n: Tally) -> Result<Choice, Refusal>
     ensures { NextRead bundle.now source c n result }
 {
-    match read_mandatory_token(bundle, source, c) {
-        Mandatory::NoToken(e) => Choice::Unchosen(e),
-        Mandatory::Got(t, o, d) => Choice::NextChosen(t, o, d, n),
-    }
+    let (t, o, d) = read_mandatory_token(bundle, source, c)?;
+    Ok(Choice::NextChosen(t, o, d, n))
 }
 
 // A name at the start of a selector.
-fn word_start(bundle: &[u8], a: Range, o: Place) -> Start
+fn word_start(bundle: &[u8], a: Range, o: Place) -> Result<Start, Refusal>
     ensures { WordStart bundle.now a o result }
 {
     if is_colors(bundle, a) {
-        return Start::ColorsBlock;
+        return Ok(Start::ColorsBlock);
     }
     let kind = object_type(bundle, a);
     if kind == 0 {
-        return Start::BadStart(refuse(PARSE, OBJECT_TYPE, o));
+        return Err(refuse(PARSE, OBJECT_TYPE, o));
     }
-    Start::Object(kind)
+    Ok(Start::Object(kind))
 }
 
-fn rule_start(bundle: &[u8], t: Token, o: Place) -> Start
+fn rule_start(bundle: &[u8], t: Token, o: Place) -> Result<Start, Refusal>
     ensures { StartRead bundle.now t o result }
 {
     match t {
-        Token::LeftBrace => Start::Body,
+        Token::LeftBrace => Ok(Start::Body),
         Token::Identifier(a) => word_start(bundle, a, o),
-        _ => Start::BadStart(refuse(PARSE, UNEXPECTED_TOKEN, o)),
+        _ => Err(refuse(PARSE, UNEXPECTED_TOKEN, o)),
     }
 }
 
 // Stores a rule with the selectors and properties that no rule has.
-fn store_rule(source: Source, c: Cursor, n: Tally, rules: &mut [u32]) -> Kept
+fn store_rule(
+    source: Source,
+    c: Cursor,
+    n: Tally,
+    rules: &mut [u32],
+) -> Result<(Cursor, Tally), Refusal>
     ensures { RuleKept source c n rules.old rules.new result }
 {
     match keep_rule(rules, n) {
-        Room::NoRoom => Kept::Refused(refuse_reached(TABLE_FULL, RULES, source, c)),
-        Room::Stored(m) => Kept::Done(c, m),
+        None => Err(refuse_reached(TABLE_FULL, RULES, source, c)),
+        Some(m) => Ok((c, m)),
     }
 }
 
@@ -240,23 +216,25 @@ fn read_body(
     numbers: &mut [f64],
     colors: &[u32],
     known: usize,
-) -> Kept
+) -> Result<(Cursor, Tally), Refusal>
     ensures { BodyRead bundle.now source c n (colors_of bundle.now colors.now known) rules.old properties.old numbers.old rules.new properties.new numbers.new result }
 {
-    match read_properties(bundle, source, c, n, properties, numbers, colors, known) {
-        Kept::Refused(e) => Kept::Refused(e),
-        Kept::Done(d, m) => store_rule(source, d, m, rules),
-    }
+    let (d, m) = read_properties(bundle, source, c, n, properties, numbers, colors, known)?;
+    store_rule(source, d, m, rules)
 }
 
 // Behind the word colors.
-fn read_block(bundle: &[u8], source: Source, c: Cursor, n: Tally, rules: &mut [u32]) -> Kept
+fn read_block(
+    bundle: &[u8],
+    source: Source,
+    c: Cursor,
+    n: Tally,
+    rules: &mut [u32],
+) -> Result<(Cursor, Tally), Refusal>
     ensures { BlockRead bundle.now source c n rules.old rules.new result }
 {
-    match skip_colors(bundle, source, c) {
-        Past::Another(e) => Kept::Refused(e),
-        Past::Beyond(d) => store_rule(source, d, n, rules),
-    }
+    let d = skip_colors(bundle, source, c)?;
+    store_rule(source, d, n, rules)
 }
 
 // From the first token of a rule on, which begins at o.
@@ -273,7 +251,7 @@ pub fn read_rule(
     properties: &mut [u32],
     numbers: &mut [f64],
     colors: &[u32],
-) -> Kept
+) -> Result<(Cursor, Tally), Refusal>
     ensures { RuleRead bundle.now source t o c n colors.now rules.old selectors.old tests.old properties.old numbers.old rules.new selectors.new tests.new properties.new numbers.new result }
 {
     let known = n.colors;
@@ -282,10 +260,8 @@ pub fn read_rule(
     let mut at = c;
     let mut k = n;
     loop {
-        match rule_start(bundle, first, begins) {
-            Start::BadStart(e) => {
-                return Kept::Refused(e);
-            }
+        let start = rule_start(bundle, first, begins)?;
+        match start {
             Start::Body => {
                 return read_body(
                     bundle, source, at, k, rules, properties, numbers, colors, known,
@@ -294,24 +270,22 @@ pub fn read_rule(
             Start::ColorsBlock => {
                 return read_block(bundle, source, at, k, rules);
             }
-            Start::Object(kind) => match read_choice(
-                bundle, source, kind, at, k, selectors, tests, numbers,
-            ) {
-                Choice::Unchosen(e) => {
-                    return Kept::Refused(e);
+            Start::Object(kind) => {
+                let choice = read_choice(bundle, source, kind, at, k, selectors, tests, numbers)?;
+                match choice {
+                    Choice::LastChosen(d, m) => {
+                        return read_body(
+                            bundle, source, d, m, rules, properties, numbers, colors, known,
+                        );
+                    }
+                    Choice::NextChosen(u, p, d, m) => {
+                        first = u;
+                        begins = p;
+                        at = d;
+                        k = m;
+                    }
                 }
-                Choice::LastChosen(d, m) => {
-                    return read_body(
-                        bundle, source, d, m, rules, properties, numbers, colors, known,
-                    );
-                }
-                Choice::NextChosen(u, p, d, m) => {
-                    first = u;
-                    begins = p;
-                    at = d;
-                    k = m;
-                }
-            },
+            }
         }
     }
 }

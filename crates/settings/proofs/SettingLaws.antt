@@ -6,7 +6,7 @@ use mathlib.Core.List.{List, [], ◌∷◌}
 use native.Mathlib.Omega.{arith}
 use lib.Ieee.{Float}
 use lib.ListN.{length, get_or}
-use Rattle.base.specs.Table.{zero_float}
+use Rattle.std.specs.Prelude.{Some, None}
 use Rattle.valid.specs.declared.Counts.{Counts}
 use Rattle.style.specs.declared.Settings.{Settings}
 use Rattle.style.specs.declared.StyleType.{StyleType}
@@ -27,7 +27,7 @@ pub settings_there :
     → t ≡ type_of k
     → 0 < length font
     → ◌≡◌ {A = Settings}
-    (record { style_type = t; has_font_multiplier = true; font_multiplier = get_or font 0 d; for_labels = b })
+    (record { style_type = t; font_multiplier = Some (get_or font 0 d); for_labels = b })
     (settings_of k font b)
 unfolding settings_of
 settings_there k [] b d e h = absurd (omega arith)
@@ -38,7 +38,7 @@ pub settings_none :
     → t ≡ type_of k
     → length font ≤ 0
     → ◌≡◌ {A = Settings}
-    (record { style_type = t; has_font_multiplier = false; font_multiplier = zero_float; for_labels = b })
+    (record { style_type = t; font_multiplier = None; for_labels = b })
     (settings_of k font b)
 unfolding settings_of
 settings_none k [] b e h = rw e refl

@@ -1,7 +1,6 @@
 -- What exports are handed as numbers: counts and settings.
-use Rattle.std.specs.Prelude.{ℕ, Bool, true, false, List, [], ◌∷◌, eqb, Float, get_or}
+use Rattle.std.specs.Prelude.{ℕ, Bool, List, [], ◌∷◌, eqb, Float, get_or, Some, None}
 use Rattle.base.specs.Choice.{pick}
-use Rattle.base.specs.Table.{zero_float}
 use Rattle.style.specs.declared.Settings.{Settings}
 use Rattle.style.specs.declared.StyleType.{StyleType}
 use Rattle.style.specs.declared.StyleType.TheVariants.{Josm, MapsMe}
@@ -20,6 +19,6 @@ type_of k = pick (eqb k 1) MapsMe Josm
 -- the first number, if there is one, is the font size multiplier
 unfoldable pub settings_of : ℕ → List Float → Bool → Settings
 settings_of k [] for_labels =
-    record { style_type = type_of k; has_font_multiplier = false; font_multiplier = zero_float; for_labels = for_labels }
+    record { style_type = type_of k; font_multiplier = None; for_labels = for_labels }
 settings_of k (x ∷ xs) for_labels =
-    record { style_type = type_of k; has_font_multiplier = true; font_multiplier = x; for_labels = for_labels }
+    record { style_type = type_of k; font_multiplier = Some x; for_labels = for_labels }

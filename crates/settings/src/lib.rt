@@ -46,15 +46,13 @@ pub fn settings_of(k: u8, font: &[f64], for_labels: bool) -> Settings
     if 0 < font.len() {
         return Settings {
             style_type,
-            has_font_multiplier: true,
-            font_multiplier: font[0],
+            font_multiplier: Some(font[0]),
             for_labels,
         };
     }
     Settings {
         style_type,
-        has_font_multiplier: false,
-        font_multiplier: 0.0,
+        font_multiplier: None,
         for_labels,
     }
 }

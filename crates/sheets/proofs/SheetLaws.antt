@@ -16,9 +16,6 @@ use Rattle.base.specs.Refusal.{refusal}
 use Rattle.base.specs.declared.Range.{Range}
 use Rattle.base.specs.declared.refusal.Refusal.{Refusal}
 use Rattle.bundle.specs.Bundle.{find_of}
-use Rattle.bundle.specs.Elim.{on-FoundText}
-use Rattle.bundle.specs.declared.FoundText.{FoundText}
-use Rattle.bundle.specs.declared.FoundText.TheVariants.{Missing, Text}
 use Rattle.color.specs.declared.Color.{Color}
 use Rattle.cursor.specs.Cursor.{start}
 use Rattle.cursor.specs.declared.Cursor.{Cursor}
@@ -32,14 +29,11 @@ use Rattle.grammar.specs.Reading.{Reading, rule_item}
 use Rattle.grammar.specs.View.{color_of}
 use Rattle.grammar.specs.Reader.{keep_color, parse, import_file}
 use Rattle.grammar.specs.Input.{color_entry, Answer, refused, read, broken, end, token, on_next, on_option, after, keep}
-use Rattle.keep.specs.Elim.{with-Room, on-Room}
 use Rattle.keep.specs.Lent.{Lent, lent, keep_color_of, taken, put_entry}
 use Rattle.keep.specs.Source.{reading}
 use Rattle.input.specs.Source.{Spot, spot, source, next_at}
 use Rattle.input.specs.Text.{name_in, token_of, left, next_of, expect_of, place, refusal_at, reached_at}
-use Rattle.input.specs.declared.Past.TheVariants.{Another, Beyond}
 use Rattle.input.specs.declared.Place.{Place}
-use Rattle.keep.specs.declared.Room.TheVariants.{NoRoom, Stored}
 use Rattle.input.specs.declared.Source.{Source}
 use Rattle.keep.specs.declared.Tally.{Tally}
 use Rattle.input.proofs.Fuel.{next_moves}
@@ -47,25 +41,23 @@ use Rattle.input.proofs.TokenLaws.{others, not_color}
 use Rattle.properties.specs.Answers.{Leads, stops, leads}
 use Rattle.rules.specs.Rules.{RuleRead}
 use Rattle.sheets.specs.Sheets.{DefinitionRead, Statements, bad_statement, end_of_text, import_of, color_of as color_at, rule_at, StatementRead, Parses, stopped, ended, SheetRead, ImportRead}
-use Rattle.keep.specs.declared.Kept.{Kept}
-use Rattle.keep.specs.declared.Kept.TheVariants.{Refused, Done}
-use Rattle.sheets.specs.declared.Parsed.{Parsed}
-use Rattle.sheets.specs.declared.Parsed.TheVariants.{Stopped, Ended}
 use Rattle.sheets.specs.declared.Statement.{Statement}
-use Rattle.sheets.specs.declared.Statement.TheVariants.{BadStatement, EndOfText, ImportOf, ColorOf, RuleAt}
+use Rattle.sheets.specs.declared.Statement.TheVariants.{EndOfText, ImportOf, ColorOf, RuleAt}
 use Rattle.keep.proofs.Laws.{option_none, option_some, another, beyond}
 use Rattle.properties.proofs.ValueLaws.{after_refused, after_done, lead_stop, lead_on}
 use Rattle.properties.proofs.Turns.{Goes, goes_start, goes_end, goes_on}
+use Rattle.std.specs.Prelude.{Some, None, Result, Ok, Err, Option}
+use Rattle.base.specs.Option.{on_option as on_option', with_option, on_option2}
 
 -- ---- storing a colour
 
 module _ {A : Type 0} (Q : Answer A Spot Lent Refusal → Type 0) (bundle : Bytes) (s : Source) where
   pub no_room_color :
       (name : Range) (x : Color) (c : Cursor) (τ : Lent) (k : Lent → Answer A Spot Lent Refusal) {u : List ℕ}
-      → keep_color_of bundle τ.tally τ.colors (within name bundle) name x ≡ (NoRoom, u)
+      → keep_color_of bundle τ.tally τ.colors (within name bundle) name x ≡ (None, u)
       → Q (refused (refusal_at 20 6 (reached_at s c)) τ)
       → Q (keep (reading bundle) (color_entry (name_in bundle name) x) (spot s c) τ k)
-  unfolding put_entry taken with-Room on-Room
+  unfolding put_entry taken with_option on_option on_option'
   no_room_color name x c τ k e q =
       option_none Q _ _ k
       (ap (λ y. taken y λ n t. lent n τ.rules τ.selectors τ.tests τ.properties τ.numbers t) e)
@@ -73,10 +65,10 @@ module _ {A : Type 0} (Q : Answer A Spot Lent Refusal → Type 0) (bundle : Byte
 
   pub room_color :
       (name : Range) (x : Color) (c : Cursor) (τ : Lent) (k : Lent → Answer A Spot Lent Refusal) {n : Tally} {u : List ℕ}
-      → keep_color_of bundle τ.tally τ.colors (within name bundle) name x ≡ (Stored n, u)
+      → keep_color_of bundle τ.tally τ.colors (within name bundle) name x ≡ (Some n, u)
       → Q (k (lent n τ.rules τ.selectors τ.tests τ.properties τ.numbers u))
       → Q (keep (reading bundle) (color_entry (name_in bundle name) x) (spot s c) τ k)
-  unfolding put_entry taken with-Room on-Room
+  unfolding put_entry taken with_option on_option on_option'
   room_color name x c τ k e q =
       option_some Q _ _ k
       (ap (λ y. taken y λ n t. lent n τ.rules τ.selectors τ.tests τ.properties τ.numbers t) e)
@@ -159,31 +151,31 @@ module _ {A : Type 0} (Q : Answer A Spot Lent Refusal → Type 0) (bundle : Byte
 
 -- ---- the beginning of a statement
 
-module _ {A : Type 0} (Q : Answer A Spot Lent Refusal → Type 0) {bundle : Bytes} {s : Source} {bound : ℕ} {E : Spot → Answer A Spot Lent Refusal} {I C : Name → Spot → Answer A Spot Lent Refusal} {R : Token' → Place → Spot → Answer A Spot Lent Refusal} {r : Statement} {a : Answer A Spot Lent Refusal} (h : Statements bundle s bound E I C R r a) where
-  pub statement_bad : {e : Refusal} → r ≡ BadStatement e → ((e' : Refusal) (τ : Lent) → e ≡ e' → Q (refused e' τ)) → Q a
+module _ {A : Type 0} (Q : Answer A Spot Lent Refusal → Type 0) {bundle : Bytes} {s : Source} {bound : ℕ} {E : Spot → Answer A Spot Lent Refusal} {I C : Name → Spot → Answer A Spot Lent Refusal} {R : Token' → Place → Spot → Answer A Spot Lent Refusal} {r : Result Statement Refusal} {a : Answer A Spot Lent Refusal} (h : Statements bundle s bound E I C R r a) where
+  pub statement_bad : {e : Refusal} → r ≡ Err e → ((e' : Refusal) (τ : Lent) → e ≡ e' → Q (refused e' τ)) → Q a
   statement_bad {e} = go h
     where
-      go : {r : Statement} {a : Answer A Spot Lent Refusal} → Statements bundle s bound E I C R r a → r ≡ BadStatement e → ((e' : Refusal) (τ : Lent) → e ≡ e' → Q (refused e' τ)) → Q a
+      go : {r : Result Statement Refusal} {a : Answer A Spot Lent Refusal} → Statements bundle s bound E I C R r a → r ≡ Err e → ((e' : Refusal) (τ : Lent) → e ≡ e' → Q (refused e' τ)) → Q a
       go (bad_statement {e = x} {e' = y} {τ = τ} p) q k = let z : x ≡ e = cc in k y τ (sym z ∙ p)
       go (end_of_text f) q k = different cc
       go (import_of y f p) q k = different cc
       go (color_at y f p) q k = different cc
       go (rule_at y z f p) q k = different cc
 
-  pub statement_end : r ≡ EndOfText → ((d : Cursor) → Q (E (spot s d))) → Q a
+  pub statement_end : r ≡ Ok EndOfText → ((d : Cursor) → Q (E (spot s d))) → Q a
   statement_end = go h
     where
-      go : {r : Statement} {a : Answer A Spot Lent Refusal} → Statements bundle s bound E I C R r a → r ≡ EndOfText → ((d : Cursor) → Q (E (spot s d))) → Q a
+      go : {r : Result Statement Refusal} {a : Answer A Spot Lent Refusal} → Statements bundle s bound E I C R r a → r ≡ Ok EndOfText → ((d : Cursor) → Q (E (spot s d))) → Q a
       go (bad_statement p) q k = different cc
       go (end_of_text f) q k = k f
       go (import_of y f p) q k = different cc
       go (color_at y f p) q k = different cc
       go (rule_at y z f p) q k = different cc
 
-  pub statement_import : {x : Range} {d : Cursor} → r ≡ ImportOf x d → (left bundle s d < bound → Q (I (name_in bundle x) (spot s d))) → Q a
+  pub statement_import : {x : Range} {d : Cursor} → r ≡ Ok (ImportOf x d) → (left bundle s d < bound → Q (I (name_in bundle x) (spot s d))) → Q a
   statement_import {x} {d} = go h
     where
-      go : {r : Statement} {a : Answer A Spot Lent Refusal} → Statements bundle s bound E I C R r a → r ≡ ImportOf x d → (left bundle s d < bound → Q (I (name_in bundle x) (spot s d))) → Q a
+      go : {r : Result Statement Refusal} {a : Answer A Spot Lent Refusal} → Statements bundle s bound E I C R r a → r ≡ Ok (ImportOf x d) → (left bundle s d < bound → Q (I (name_in bundle x) (spot s d))) → Q a
       go (bad_statement p) q k = different cc
       go (end_of_text f) q k = different cc
       go (import_of y f p) q k =
@@ -194,10 +186,10 @@ module _ {A : Type 0} (Q : Answer A Spot Lent Refusal → Type 0) {bundle : Byte
       go (color_at y f p) q k = different cc
       go (rule_at y z f p) q k = different cc
 
-  pub statement_color : {x : Range} {d : Cursor} → r ≡ ColorOf x d → (left bundle s d < bound → Q (C (name_in bundle x) (spot s d))) → Q a
+  pub statement_color : {x : Range} {d : Cursor} → r ≡ Ok (ColorOf x d) → (left bundle s d < bound → Q (C (name_in bundle x) (spot s d))) → Q a
   statement_color {x} {d} = go h
     where
-      go : {r : Statement} {a : Answer A Spot Lent Refusal} → Statements bundle s bound E I C R r a → r ≡ ColorOf x d → (left bundle s d < bound → Q (C (name_in bundle x) (spot s d))) → Q a
+      go : {r : Result Statement Refusal} {a : Answer A Spot Lent Refusal} → Statements bundle s bound E I C R r a → r ≡ Ok (ColorOf x d) → (left bundle s d < bound → Q (C (name_in bundle x) (spot s d))) → Q a
       go (bad_statement p) q k = different cc
       go (end_of_text f) q k = different cc
       go (import_of y f p) q k = different cc
@@ -208,10 +200,10 @@ module _ {A : Type 0} (Q : Answer A Spot Lent Refusal → Type 0) {bundle : Byte
           (subst (λ f. Q (C (name_in bundle x) (spot s f))) z (k (subst (λ f. left bundle s f < bound) (sym z) p)))
       go (rule_at y z f p) q k = different cc
 
-  pub statement_rule : {t : Token} {o : Place} {d : Cursor} → r ≡ RuleAt t o d → (left bundle s d < bound → Q (R (token_of bundle t) o (spot s d))) → Q a
+  pub statement_rule : {t : Token} {o : Place} {d : Cursor} → r ≡ Ok (RuleAt t o d) → (left bundle s d < bound → Q (R (token_of bundle t) o (spot s d))) → Q a
   statement_rule {t} {o} {d} = go h
     where
-      go : {r : Statement} {a : Answer A Spot Lent Refusal} → Statements bundle s bound E I C R r a → r ≡ RuleAt t o d → (left bundle s d < bound → Q (R (token_of bundle t) o (spot s d))) → Q a
+      go : {r : Result Statement Refusal} {a : Answer A Spot Lent Refusal} → Statements bundle s bound E I C R r a → r ≡ Ok (RuleAt t o d) → (left bundle s d < bound → Q (R (token_of bundle t) o (spot s d))) → Q a
       go (bad_statement p) q k = different cc
       go (end_of_text f) q k = different cc
       go (import_of y f p) q k = different cc
@@ -226,25 +218,25 @@ module _ {A : Type 0} (Q : Answer A Spot Lent Refusal → Type 0) {bundle : Byte
 
 -- ---- what a whole text has read
 
-module _ {B : Type 0} (Q : Answer B Spot Lent Refusal → Type 0) {tables : Tally → Lent} {r : Parsed} {a : Answer Reading Spot Lent Refusal} (k : Reading → Spot → Lent → Answer B Spot Lent Refusal) (h : Parses tables r a) where
-  after_stopped : {e : Refusal} → r ≡ Stopped e → ((e' : Refusal) (τ : Lent) → e ≡ e' → Q (refused e' τ)) → Q (after a k)
+module _ {B : Type 0} (Q : Answer B Spot Lent Refusal → Type 0) {tables : Tally → Lent} {r : Result Tally Refusal} {a : Answer Reading Spot Lent Refusal} (k : Reading → Spot → Lent → Answer B Spot Lent Refusal) (h : Parses tables r a) where
+  after_stopped : {e : Refusal} → r ≡ Err e → ((e' : Refusal) (τ : Lent) → e ≡ e' → Q (refused e' τ)) → Q (after a k)
   unfolding after
   after_stopped {e} = go h
     where
-      go : {r : Parsed} {a : Answer Reading Spot Lent Refusal} → Parses tables r a → r ≡ Stopped e → ((e' : Refusal) (τ : Lent) → e ≡ e' → Q (refused e' τ)) → Q (after a k)
+      go : {r : Result Tally Refusal} {a : Answer Reading Spot Lent Refusal} → Parses tables r a → r ≡ Err e → ((e' : Refusal) (τ : Lent) → e ≡ e' → Q (refused e' τ)) → Q (after a k)
       go (stopped {e = x} {e' = y} {τ = τ} p) q f = let z : x ≡ e = cc in f y τ (sym z ∙ p)
       go ended q f = different cc
 
-  after_ended : {n : Tally} → r ≡ Ended n → ((x : Reading) (p : Spot) → Q (k x p (tables n))) → Q (after a k)
+  after_ended : {n : Tally} → r ≡ Ok n → ((x : Reading) (p : Spot) → Q (k x p (tables n))) → Q (after a k)
   unfolding after
   after_ended {n} = go h
     where
-      go : {r : Parsed} {a : Answer Reading Spot Lent Refusal} → Parses tables r a → r ≡ Ended n → ((x : Reading) (p : Spot) → Q (k x p (tables n))) → Q (after a k)
+      go : {r : Result Tally Refusal} {a : Answer Reading Spot Lent Refusal} → Parses tables r a → r ≡ Ok n → ((x : Reading) (p : Spot) → Q (k x p (tables n))) → Q (after a k)
       go (stopped p) q f = different cc
       go (ended {js = js} {p = p} {n = m}) q f = let z : n ≡ m = cc in subst (λ m. Q (k js p (tables m))) z (f js p)
 
 -- what is read behind a statement, with the statement before it
-before_parses : {tables : Tally → Lent} {r : Parsed} (js : Reading) (a : Answer Reading Spot Lent Refusal) → Parses tables r a → Parses tables r (after a λ ks c τ. read (js ++ ks) c τ)
+before_parses : {tables : Tally → Lent} {r : Result Tally Refusal} (js : Reading) (a : Answer Reading Spot Lent Refusal) → Parses tables r a → Parses tables r (after a λ ks c τ. read (js ++ ks) c τ)
 unfolding after
 before_parses js a (stopped e) = stopped e
 before_parses js a ended = ended
@@ -252,16 +244,16 @@ before_parses js a ended = ended
 -- ---- imports
 
 module _ (Q : Answer Reading Spot Lent Refusal → Type 0) (bundle : Bytes) (s : Source) (name : Range) (d : Cursor) (τ : Lent) (K : Reading → Spot → Lent → Answer Reading Spot Lent Refusal) where
-  abbrev found : ℕ → FoundText → Answer Reading Spot Lent Refusal
+  abbrev found : ℕ → Option (ℕ × Range) → Answer Reading Spot Lent Refusal
   found zero x =
-      on_option (on-FoundText x none λ k r. some (spot (source k r) start)) (refused (refusal_at 5 0 (reached_at s d)) τ) λ p.
+      on_option (on_option2 x none λ k r. some (spot (source k r) start)) (refused (refusal_at 5 0 (reached_at s d)) τ) λ p.
       refused (refusal_at 21 0 (reached_at s d)) τ
   found (suc k) x =
-      on_option (on-FoundText x none λ k r. some (spot (source k r) start)) (refused (refusal_at 5 0 (reached_at s d)) τ) λ p.
+      on_option (on_option2 x none λ k r. some (spot (source k r) start)) (refused (refusal_at 5 0 (reached_at s d)) τ) λ p.
       parse (reading bundle) (import_file (reading bundle) k) (suc (left bundle p.source p.cursor)) p τ
 
   by_found :
-      (depth : ℕ) {w : Bytes} {x : FoundText}
+      (depth : ℕ) {w : Bytes} {x : Option (ℕ × Range)}
       → find_of bundle w ≡ x
       → w ≡ within name bundle
       → Q (after (found depth x) K)
@@ -270,13 +262,13 @@ module _ (Q : Answer Reading Spot Lent Refusal → Type 0) (bundle : Bytes) (s :
   by_found zero e u q = subst (λ x. Q (after (found zero x) K)) (sym e ∙ ap (find_of bundle) u) q
   by_found (suc k) e u q = subst (λ x. Q (after (found (suc k) x) K)) (sym e ∙ ap (find_of bundle) u) q
 
-  missing : (depth : ℕ) → Q (refused (refusal_at 5 0 (reached_at s d)) τ) → Q (after (found depth Missing) K)
-  unfolding on_option on-FoundText after
+  missing : (depth : ℕ) → Q (refused (refusal_at 5 0 (reached_at s d)) τ) → Q (after (found depth None) K)
+  unfolding on_option on_option' after
   missing zero q = q
   missing (suc k) q = q
 
-  too_deep_lem : (depth number : ℕ) (range : Range) → depth ≡ 0 → Q (refused (refusal_at 21 0 (reached_at s d)) τ) → Q (after (found depth (Text number range)) K)
-  unfolding on_option on-FoundText after
+  too_deep_lem : (depth number : ℕ) (range : Range) → depth ≡ 0 → Q (refused (refusal_at 21 0 (reached_at s d)) τ) → Q (after (found depth (Some (number, range))) K)
+  unfolding on_option on_option' after
   too_deep_lem zero number range e q = q
   too_deep_lem (suc k) number range e q = absurd (omega (arith, e))
 
@@ -284,37 +276,37 @@ module _ (Q : Answer Reading Spot Lent Refusal → Type 0) (bundle : Bytes) (s :
       (depth number : ℕ) (range : Range)
       → (depth ≡ 0 → ⊥)
       → Q (after (parse (reading bundle) (import_file (reading bundle) (depth - 1)) (suc (left bundle (source number range) start)) (spot (source number range) start) τ) K)
-      → Q (after (found depth (Text number range)) K)
-  unfolding on_option on-FoundText
+      → Q (after (found depth (Some (number, range))) K)
+  unfolding on_option on_option'
   deeper zero number range m q = absurd (m refl)
   deeper (suc k) number range m q =
       let e : suc k - 1 ≡ k = omega arith in
       subst (λ n. Q (after (parse (reading bundle) (import_file (reading bundle) n) (suc (left bundle (source number range) start)) (spot (source number range) start) τ) K)) e q
 
 module _ (bundle : Bytes) (s : Source) (name : Range) (c : Cursor) (depth : ℕ) (τ : Lent) (tables : Tally → Lent) where
-  pub import_another : {e : Refusal} → expect_of bundle semi_colon s c ≡ Another e → ImportRead bundle name s c depth τ tables (Refused e)
+  pub import_another : {e : Refusal} → expect_of bundle semi_colon s c ≡ Err e → ImportRead bundle name s c depth τ tables (Err e)
   import_another h K = another (Leads bundle s (left bundle s c) tables K _) bundle s semi_colon c τ _ h (stops refl)
 
-  module _ {d : Cursor} {w : Bytes} (h : expect_of bundle semi_colon s c ≡ Beyond d) (u : w ≡ within name bundle) where
-    pub import_missing : {e : Refusal} → find_of bundle w ≡ Missing → e ≡ refusal_at 5 0 (reached_at s d) → ImportRead bundle name s c depth τ tables (Refused e)
+  module _ {d : Cursor} {w : Bytes} (h : expect_of bundle semi_colon s c ≡ Ok d) (u : w ≡ within name bundle) where
+    pub import_missing : {e : Refusal} → find_of bundle w ≡ None → e ≡ refusal_at 5 0 (reached_at s d) → ImportRead bundle name s c depth τ tables (Err e)
     import_missing f x K =
         beyond (Leads bundle s (left bundle s c) tables K _) bundle s semi_colon c τ _ h λ m.
         by_found (Leads bundle s (left bundle s c) tables K _) bundle s name d τ _ depth f u
         (missing (Leads bundle s (left bundle s c) tables K _) bundle s name d τ _ depth (stops x))
 
-    module _ {number : ℕ} {range : Range} (f : find_of bundle w ≡ Text number range) where
-      pub import_deep : {e : Refusal} → depth ≡ 0 → e ≡ refusal_at 21 0 (reached_at s d) → ImportRead bundle name s c depth τ tables (Refused e)
+    module _ {number : ℕ} {range : Range} (f : find_of bundle w ≡ Some (number, range)) where
+      pub import_deep : {e : Refusal} → depth ≡ 0 → e ≡ refusal_at 21 0 (reached_at s d) → ImportRead bundle name s c depth τ tables (Err e)
       import_deep z x K =
           beyond (Leads bundle s (left bundle s c) tables K _) bundle s semi_colon c τ _ h λ m.
           by_found (Leads bundle s (left bundle s c) tables K _) bundle s name d τ _ depth f u
           (too_deep_lem (Leads bundle s (left bundle s c) tables K _) bundle s name d τ _ depth number range z (stops x))
 
       pub import_stopped :
-          {r : Parsed} {e : Refusal}
+          {r : Result Tally Refusal} {e : Refusal}
           → (depth ≡ 0 → ⊥)
           → SheetRead bundle (source number range) (depth - 1) τ tables r
-          → r ≡ Stopped e
-          → ImportRead bundle name s c depth τ tables (Refused e)
+          → r ≡ Err e
+          → ImportRead bundle name s c depth τ tables (Err e)
       import_stopped z p x K =
           beyond (Leads bundle s (left bundle s c) tables K _) bundle s semi_colon c τ _ h λ m.
           by_found (Leads bundle s (left bundle s c) tables K _) bundle s name d τ _ depth f u
@@ -322,11 +314,11 @@ module _ (bundle : Bytes) (s : Source) (name : Range) (c : Cursor) (depth : ℕ)
           (after_stopped (Leads bundle s (left bundle s c) tables K _) _ p x λ e τ q. stops q))
 
       pub import_ended :
-          {r : Parsed} {n : Tally}
+          {r : Result Tally Refusal} {n : Tally}
           → (depth ≡ 0 → ⊥)
           → SheetRead bundle (source number range) (depth - 1) τ tables r
-          → r ≡ Ended n
-          → ImportRead bundle name s c depth τ tables (Done d n)
+          → r ≡ Ok n
+          → ImportRead bundle name s c depth τ tables (Ok (d, n))
       import_ended z p x K =
           beyond (Leads bundle s (left bundle s c) tables K _) bundle s semi_colon c τ _ h λ m.
           by_found (Leads bundle s (left bundle s c) tables K _) bundle s name d τ _ depth f u
@@ -337,22 +329,22 @@ module _ (bundle : Bytes) (s : Source) (name : Range) (c : Cursor) (depth : ℕ)
 
 module _ (bundle : Bytes) (s : Source) where
   pub import_less :
-      (depth : ℕ) (at : Cursor) (τ : Lent) {st : Statement} {a : Range} {d f : Cursor} {r : Kept} {m : Tally} {tables : Tally → Lent}
+      (depth : ℕ) (at : Cursor) (τ : Lent) {st : Result Statement Refusal} {a : Range} {d f : Cursor} {r : Result (Cursor × Tally) Refusal} {m : Tally} {tables : Tally → Lent}
       → StatementRead bundle s at st
-      → st ≡ ImportOf a d
+      → st ≡ Ok (ImportOf a d)
       → ImportRead bundle a s d depth τ tables r
-      → r ≡ Done f m
+      → r ≡ Ok (f, m)
       → left bundle s f < left bundle s at
   import_less depth at τ {f = f} h x i y =
       statement_import (λ z. left bundle s f < left bundle s at) (h τ (λ d. read [] d τ) (λ n d. read [] d τ) (λ n d. read [] d τ) (λ t o d. read [] d τ)) x λ l.
       lead_on (λ z. left bundle s f < left bundle s at) (i λ js e τ. read [] e τ) y λ js v. omega arith
 
   pub color_less :
-      (at : Cursor) (n : Tally) (cs : List ℕ) {cs' : List ℕ} {st : Statement} {a : Range} {d f : Cursor} {r : Kept} {m : Tally}
+      (at : Cursor) (n : Tally) (cs : List ℕ) {cs' : List ℕ} {st : Result Statement Refusal} {a : Range} {d f : Cursor} {r : Result (Cursor × Tally) Refusal} {m : Tally}
       → StatementRead bundle s at st
-      → st ≡ ColorOf a d
+      → st ≡ Ok (ColorOf a d)
       → DefinitionRead bundle s a d n cs cs' r
-      → r ≡ Done f m
+      → r ≡ Ok (f, m)
       → left bundle s f < left bundle s at
   color_less at n cs {f = f} h x i y =
       let τ = lent n [] [] [] [] [] cs in
@@ -360,11 +352,11 @@ module _ (bundle : Bytes) (s : Source) where
       after_done {B = Reading} (λ z. left bundle s f < left bundle s at) (λ js e τ. read [] e τ) (i τ) y λ js v. omega arith
 
   pub rule_less :
-      (at : Cursor) (n : Tally) (rs ss ts ps : List ℕ) (xs : List Float) (cs : List ℕ) {rs' ss' ts' ps' : List ℕ} {xs' : List Float} {st : Statement} {t : Token} {o : Place} {d f : Cursor} {r : Kept} {m : Tally}
+      (at : Cursor) (n : Tally) (rs ss ts ps : List ℕ) (xs : List Float) (cs : List ℕ) {rs' ss' ts' ps' : List ℕ} {xs' : List Float} {st : Result Statement Refusal} {t : Token} {o : Place} {d f : Cursor} {r : Result (Cursor × Tally) Refusal} {m : Tally}
       → StatementRead bundle s at st
-      → st ≡ RuleAt t o d
+      → st ≡ Ok (RuleAt t o d)
       → RuleRead bundle s t o d n cs rs ss ts ps xs rs' ss' ts' ps' xs' r
-      → r ≡ Done f m
+      → r ≡ Ok (f, m)
       → left bundle s f < left bundle s at
   rule_less at n rs ss ts ps xs cs {d = d} {f = f} h x i y =
       let τ = lent n rs ss ts ps xs cs in
@@ -388,24 +380,24 @@ module _ (bundle : Bytes) (s : Source) (depth : ℕ) (τ₀ : Lent) where
       subst (λ at. Parsing at τ₀) (sym e)
       (goes_start (λ b t r a. Parses t r a) bundle s start (λ f. parse (reading bundle) (import_file (reading bundle) depth) f (spot s start) τ₀) (suc (left bundle s start)) (omega arith))
 
-  pub parse_bad : (at : Cursor) (τ : Lent) {st : Statement} {e : Refusal} {tables : Tally → Lent} → Parsing at τ → StatementRead bundle s at st → st ≡ BadStatement e → Parses tables (Stopped e) whole_of
+  pub parse_bad : (at : Cursor) (τ : Lent) {st : Result Statement Refusal} {e : Refusal} {tables : Tally → Lent} → Parsing at τ → StatementRead bundle s at st → st ≡ Err e → Parses tables (Err e) whole_of
   unfolding parse
   parse_bad at τ g h x = goes_end (λ b t r a. Parses t r a) bundle s _ _ at _ g λ k l. statement_bad (Parses _ _) (h _ _ _ _ _) x λ e τ p. stopped p
 
-  pub parse_ends : (at : Cursor) {st : Statement} {n : Tally} {tables : Tally → Lent} → Parsing at (tables n) → StatementRead bundle s at st → st ≡ EndOfText → Parses tables (Ended n) whole_of
+  pub parse_ends : (at : Cursor) {st : Result Statement Refusal} {n : Tally} {tables : Tally → Lent} → Parsing at (tables n) → StatementRead bundle s at st → st ≡ Ok EndOfText → Parses tables (Ok n) whole_of
   unfolding parse
   parse_ends at g h x = goes_end (λ b t r a. Parses t r a) bundle s _ _ at _ g λ k l. statement_end (Parses _ _) (h _ _ _ _ _) x λ d. ended
 
   -- an import
-  module _ (at : Cursor) (τ : Lent) {st : Statement} {a : Range} {d : Cursor} {r : Kept} {tables : Tally → Lent} (h : StatementRead bundle s at st) (x : st ≡ ImportOf a d) (i : ImportRead bundle a s d depth τ tables r) where
-    pub import_stops : {e : Refusal} {others : Tally → Lent} → Parsing at τ → r ≡ Refused e → Parses others (Stopped e) whole_of
+  module _ (at : Cursor) (τ : Lent) {st : Result Statement Refusal} {a : Range} {d : Cursor} {r : Result (Cursor × Tally) Refusal} {tables : Tally → Lent} (h : StatementRead bundle s at st) (x : st ≡ Ok (ImportOf a d)) (i : ImportRead bundle a s d depth τ tables r) where
+    pub import_stops : {e : Refusal} {others : Tally → Lent} → Parsing at τ → r ≡ Err e → Parses others (Err e) whole_of
     unfolding parse
     import_stops g y =
         goes_end (λ b t r a. Parses t r a) bundle s _ _ at _ g λ k l.
         statement_import (Parses _ _) (h _ _ _ _ _) x λ m.
         lead_stop (Parses _ _) (i _) y λ e τ p. stopped p
 
-    pub import_on : {f : Cursor} {m : Tally} → Parsing at τ → r ≡ Done f m → Parsing f (tables m)
+    pub import_on : {f : Cursor} {m : Tally} → Parsing at τ → r ≡ Ok (f, m) → Parsing f (tables m)
     unfolding parse
     import_on {f} g y =
         goes_on (λ b t r a. Parses t r a) bundle s _ _ at f _ _ g (import_less bundle s depth at τ h x i y) λ k l t r q.
@@ -413,15 +405,15 @@ module _ (bundle : Bytes) (s : Source) (depth : ℕ) (τ₀ : Lent) where
         lead_on (Parses _ _) (i _) y λ js l. before_parses js _ q
 
   -- a colour definition
-  module _ (at : Cursor) (n : Tally) (rs ss ts ps : List ℕ) (xs : List Float) (cs : List ℕ) {cs' : List ℕ} {st : Statement} {a : Range} {d : Cursor} {r : Kept} (h : StatementRead bundle s at st) (x : st ≡ ColorOf a d) (i : DefinitionRead bundle s a d n cs cs' r) where
-    pub color_stops : {e : Refusal} {others : Tally → Lent} → Parsing at (lent n rs ss ts ps xs cs) → r ≡ Refused e → Parses others (Stopped e) whole_of
+  module _ (at : Cursor) (n : Tally) (rs ss ts ps : List ℕ) (xs : List Float) (cs : List ℕ) {cs' : List ℕ} {st : Result Statement Refusal} {a : Range} {d : Cursor} {r : Result (Cursor × Tally) Refusal} (h : StatementRead bundle s at st) (x : st ≡ Ok (ColorOf a d)) (i : DefinitionRead bundle s a d n cs cs' r) where
+    pub color_stops : {e : Refusal} {others : Tally → Lent} → Parsing at (lent n rs ss ts ps xs cs) → r ≡ Err e → Parses others (Err e) whole_of
     unfolding parse
     color_stops g y =
         goes_end (λ b t r a. Parses t r a) bundle s _ _ at _ g λ k l.
         statement_color (Parses _ _) (h _ _ _ _ _) x λ m.
         after_refused (Parses _ _) _ (i (lent n rs ss ts ps xs cs)) y λ e τ p. stopped p
 
-    pub color_on : {f : Cursor} {m : Tally} → Parsing at (lent n rs ss ts ps xs cs) → r ≡ Done f m → Parsing f (lent m rs ss ts ps xs cs')
+    pub color_on : {f : Cursor} {m : Tally} → Parsing at (lent n rs ss ts ps xs cs) → r ≡ Ok (f, m) → Parsing f (lent m rs ss ts ps xs cs')
     unfolding parse
     color_on {f} g y =
         goes_on (λ b t r a. Parses t r a) bundle s _ _ at f _ _ g (color_less bundle s at n cs h x i y) λ k l t r q.
@@ -429,15 +421,15 @@ module _ (bundle : Bytes) (s : Source) (depth : ℕ) (τ₀ : Lent) where
         after_done (Parses _ _) _ (i (lent n rs ss ts ps xs cs)) y λ js l. before_parses js _ q
 
   -- a rule
-  module _ (at : Cursor) (n : Tally) (rs ss ts ps : List ℕ) (xs : List Float) (cs : List ℕ) {rs' ss' ts' ps' : List ℕ} {xs' : List Float} {st : Statement} {t : Token} {o : Place} {d : Cursor} {r : Kept} (h : StatementRead bundle s at st) (x : st ≡ RuleAt t o d) (i : RuleRead bundle s t o d n cs rs ss ts ps xs rs' ss' ts' ps' xs' r) where
-    pub rule_stops : {e : Refusal} {others : Tally → Lent} → Parsing at (lent n rs ss ts ps xs cs) → r ≡ Refused e → Parses others (Stopped e) whole_of
+  module _ (at : Cursor) (n : Tally) (rs ss ts ps : List ℕ) (xs : List Float) (cs : List ℕ) {rs' ss' ts' ps' : List ℕ} {xs' : List Float} {st : Result Statement Refusal} {t : Token} {o : Place} {d : Cursor} {r : Result (Cursor × Tally) Refusal} (h : StatementRead bundle s at st) (x : st ≡ Ok (RuleAt t o d)) (i : RuleRead bundle s t o d n cs rs ss ts ps xs rs' ss' ts' ps' xs' r) where
+    pub rule_stops : {e : Refusal} {others : Tally → Lent} → Parsing at (lent n rs ss ts ps xs cs) → r ≡ Err e → Parses others (Err e) whole_of
     unfolding parse
     rule_stops g y =
         goes_end (λ b t r a. Parses t r a) bundle s _ _ at _ g λ k l.
         statement_rule (Parses _ _) (h _ _ _ _ _) x λ m.
         after_refused (Parses _ _) _ (i k (omega arith)) y λ e τ p. stopped p
 
-    pub rule_on : {f : Cursor} {m : Tally} → Parsing at (lent n rs ss ts ps xs cs) → r ≡ Done f m → Parsing f (lent m rs' ss' ts' ps' xs' cs)
+    pub rule_on : {f : Cursor} {m : Tally} → Parsing at (lent n rs ss ts ps xs cs) → r ≡ Ok (f, m) → Parsing f (lent m rs' ss' ts' ps' xs' cs)
     unfolding parse
     rule_on {f} g y =
         goes_on (λ b t r a. Parses t r a) bundle s _ _ at f _ _ g (rule_less bundle s at n rs ss ts ps xs cs h x i y) λ k l t r q.

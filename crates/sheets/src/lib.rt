@@ -6,11 +6,11 @@ ghost use Rattle.sheets.specs.Sheets.{DefinitionKept, DefinitionRead, StatementR
 
 use base::Range;
 use base::refusal::{COLORS, LEXER, NO_SUCH_TEXT, Refusal, TABLE_FULL, TOO_DEEP};
-use bundle::{FoundText, find_text};
+use bundle::find_text;
 use cursor::Cursor;
 use input::tokens::{expect_colon, expect_semicolon, next, read_mandatory_token, refuse_reached};
-use input::{Mandatory, Past, Place, Source};
-use keep::{Kept, Room, Tally, keep_color};
+use input::{Place, Source};
+use keep::{Tally, keep_color};
 use rules::read_rule;
 use token::Step;
 use token_kind::Token;
@@ -18,18 +18,10 @@ use token_kind::Token;
 // The beginning of a statement: the end of the text, an import, a colour definition, or the first token of a rule.
 #[derive(Clone, Copy)]
 pub enum Statement {
-    BadStatement(Refusal),
     EndOfText,
     ImportOf(Range, Cursor),
     ColorOf(Range, Cursor),
     RuleAt(Token, Place, Cursor),
-}
-
-// What reading a whole text answers: the refusal, or the counts.
-#[derive(Clone, Copy)]
-pub enum Parsed {
-    Stopped(Refusal),
-    Ended(Tally),
 }
 
 // Stores a definition whose value is t; one that is no colour has no effect.
@@ -41,15 +33,15 @@ fn store_definition(
     c: Cursor,
     n: Tally,
     colors: &mut [u32],
-) -> Kept
+) -> Result<(Cursor, Tally), Refusal>
     ensures { DefinitionKept bundle.now source name t c n colors.old colors.new result }
 {
     match t {
         Token::Color(x) => match keep_color(bundle, colors, n, name, x) {
-            Room::NoRoom => Kept::Refused(refuse_reached(TABLE_FULL, COLORS, source, c)),
-            Room::Stored(m) => Kept::Done(c, m),
+            None => Err(refuse_reached(TABLE_FULL, COLORS, source, c)),
+            Some(m) => Ok((c, m)),
         },
-        _ => Kept::Done(c, n),
+        _ => Ok((c, n)),
     }
 }
 
@@ -61,46 +53,39 @@ fn read_color_def(
     c: Cursor,
     n: Tally,
     colors: &mut [u32],
-) -> Kept
+) -> Result<(Cursor, Tally), Refusal>
     ensures { DefinitionRead bundle.now source name c n colors.old colors.new result }
 {
-    match expect_colon(bundle, source, c) {
-        Past::Another(e) => Kept::Refused(e),
-        Past::Beyond(d) => match read_mandatory_token(bundle, source, d) {
-            Mandatory::NoToken(e) => Kept::Refused(e),
-            Mandatory::Got(t, _, f) => match expect_semicolon(bundle, source, f) {
-                Past::Another(e) => Kept::Refused(e),
-                Past::Beyond(g) => store_definition(bundle, source, name, t, g, n, colors),
-            },
-        },
-    }
+    let d = expect_colon(bundle, source, c)?;
+    let (t, _, f) = read_mandatory_token(bundle, source, d)?;
+    let g = expect_semicolon(bundle, source, f)?;
+    store_definition(bundle, source, name, t, g, n, colors)
 }
 
 // The beginning of a statement.
-fn read_statement(bundle: &[u8], source: Source, c: Cursor) -> Statement
+fn read_statement(bundle: &[u8], source: Source, c: Cursor) -> Result<Statement, Refusal>
     ensures { StatementRead bundle.now source c result }
 {
     match next(bundle, source, c) {
-        Step::Wrong(reason, line, character) => Statement::BadStatement(Refusal {
+        Step::Wrong(reason, line, character) => Err(Refusal {
             number: LEXER,
             reason,
             text: source.number,
             line,
             character,
         }),
-        Step::End(_) => Statement::EndOfText,
+        Step::End(_) => Ok(Statement::EndOfText),
         Step::Took(t, line, character, d) => match t {
-            Token::Import(name) => Statement::ImportOf(name, d),
-            Token::ColorRef(name) => Statement::ColorOf(name, d),
-            _ => Statement::RuleAt(
-                t,
-                Place {
+            Token::Import(name) => Ok(Statement::ImportOf(name, d)),
+            Token::ColorRef(name) => Ok(Statement::ColorOf(name, d)),
+            _ => {
+                let o = Place {
                     text: source.number,
                     line,
                     character,
-                },
-                d,
-            ),
+                };
+                Ok(Statement::RuleAt(t, o, d))
+            }
         },
     }
 }
@@ -118,64 +103,48 @@ pub fn parse(
     properties: &mut [u32],
     numbers: &mut [f64],
     colors: &mut [u32],
-) -> Parsed
+) -> Result<Tally, Refusal>
     ensures { SheetRead bundle.now source depth (lent n rules.old selectors.old tests.old properties.old numbers.old colors.old) (λ m. lent m rules.new selectors.new tests.new properties.new numbers.new colors.new) result }
 {
     let mut at = Cursor::new();
     let mut k = n;
     loop {
-        match read_statement(bundle, source, at) {
-            Statement::BadStatement(e) => {
-                return Parsed::Stopped(e);
-            }
+        let statement = read_statement(bundle, source, at)?;
+        match statement {
             Statement::EndOfText => {
-                return Parsed::Ended(k);
+                return Ok(k);
             }
-            Statement::ImportOf(name, d) => match import_file(
-                bundle, name, source, d, depth, k, rules, selectors, tests, properties, numbers,
-                colors,
-            ) {
-                Kept::Refused(e) => {
-                    return Parsed::Stopped(e);
-                }
-                Kept::Done(f, m) => {
-                    at = f;
-                    k = m;
-                }
-            },
-            Statement::ColorOf(name, d) => match read_color_def(
-                bundle, source, name, d, k, colors,
-            ) {
-                Kept::Refused(e) => {
-                    return Parsed::Stopped(e);
-                }
-                Kept::Done(f, m) => {
-                    at = f;
-                    k = m;
-                }
-            },
-            Statement::RuleAt(t, o, d) => match read_rule(
-                bundle,
-                source,
-                t,
-                o,
-                d,
-                k,
-                rules,
-                selectors,
-                tests,
-                properties,
-                numbers,
-                &colors[..],
-            ) {
-                Kept::Refused(e) => {
-                    return Parsed::Stopped(e);
-                }
-                Kept::Done(f, m) => {
-                    at = f;
-                    k = m;
-                }
-            },
+            Statement::ImportOf(name, d) => {
+                let (f, m) = import_file(
+                    bundle, name, source, d, depth, k, rules, selectors, tests, properties,
+                    numbers, colors,
+                )?;
+                at = f;
+                k = m;
+            }
+            Statement::ColorOf(name, d) => {
+                let (f, m) = read_color_def(bundle, source, name, d, k, colors)?;
+                at = f;
+                k = m;
+            }
+            Statement::RuleAt(t, o, d) => {
+                let (f, m) = read_rule(
+                    bundle,
+                    source,
+                    t,
+                    o,
+                    d,
+                    k,
+                    rules,
+                    selectors,
+                    tests,
+                    properties,
+                    numbers,
+                    &colors[..],
+                )?;
+                at = f;
+                k = m;
+            }
         }
     }
 }
@@ -195,33 +164,29 @@ fn import_file(
     properties: &mut [u32],
     numbers: &mut [f64],
     colors: &mut [u32],
-) -> Kept
+) -> Result<(Cursor, Tally), Refusal>
     ensures { ImportRead bundle.now name source c depth (lent n rules.old selectors.old tests.old properties.old numbers.old colors.old) (λ m. lent m rules.new selectors.new tests.new properties.new numbers.new colors.new) result }
 {
-    match expect_semicolon(bundle, source, c) {
-        Past::Another(e) => Kept::Refused(e),
-        Past::Beyond(d) => match find_text(bundle, base::part(bundle, name)) {
-            FoundText::Missing => Kept::Refused(refuse_reached(NO_SUCH_TEXT, 0, source, d)),
-            FoundText::Text(number, range) => {
-                if depth == 0 {
-                    return Kept::Refused(refuse_reached(TOO_DEEP, 0, source, d));
-                }
-                match parse(
-                    bundle,
-                    Source { number, range },
-                    depth - 1,
-                    n,
-                    rules,
-                    selectors,
-                    tests,
-                    properties,
-                    numbers,
-                    colors,
-                ) {
-                    Parsed::Stopped(e) => Kept::Refused(e),
-                    Parsed::Ended(m) => Kept::Done(d, m),
-                }
+    let d = expect_semicolon(bundle, source, c)?;
+    match find_text(bundle, base::part(bundle, name)) {
+        None => Err(refuse_reached(NO_SUCH_TEXT, 0, source, d)),
+        Some((number, range)) => {
+            if depth == 0 {
+                return Err(refuse_reached(TOO_DEEP, 0, source, d));
             }
-        },
+            let m = parse(
+                bundle,
+                Source { number, range },
+                depth - 1,
+                n,
+                rules,
+                selectors,
+                tests,
+                properties,
+                numbers,
+                colors,
+            )?;
+            Ok((d, m))
+        }
     }
 }

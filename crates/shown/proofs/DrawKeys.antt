@@ -30,7 +30,6 @@ use Rattle.tag_number.specs.Told.{layer_told}
 use Rattle.decode.specs.Decode.{places, name_at}
 use Rattle.keep.specs.Lent.{Lent}
 use Rattle.walk.specs.Rows.{numbers_at}
-use Rattle.walk.specs.declared.PropertyMaps.TheVariants.{NoMaps, Maps}
 use Rattle.maps.specs.Held.{answer_held}
 use Rattle.style.specs.Get.{number_of}
 use Rattle.style.specs.declared.Settings.{Settings}
@@ -41,6 +40,7 @@ use Rattle.shown.specs.Style.{settings_shown, properties_of}
 use Rattle.shown.proofs.StyleIs.{found, number_at_lem, foreground_at, z_is}
 use Rattle.shown.proofs.Rows.{value, layer, valued, layers_valued, styled_rows_lem}
 use Rattle.shown.proofs.StylesAre.{Answered}
+use Rattle.std.specs.Prelude.{Ok, Err}
 
 -- what the order reads of an entry, and what the entry names
 abbrev pub key_for : Bool → Drawn → Key
@@ -125,15 +125,15 @@ module _ (bundle : Bytes) (τ : Lent) (s : theory.Settings) (mp : Bool) (place :
 -- from the walk's answer
 pub entity_keys_lem :
     (bundle : Bytes) (τ : Lent) (s : Settings) (mp : Bool) (place : ℕ) (e : Entity) (x : Answered)
-    → ((r : Refusal) (t : List ℕ) → x ≡ (NoMaps r, t) → r ≡ of_entity r.number mp place)
+    → ((r : Refusal) (t : List ℕ) → x ≡ (Err r, t) → r ≡ of_entity r.number mp place)
     → keys_in bundle τ.selectors τ.properties τ.numbers s.for_labels mp place e.kind e.id
     (layer_told (layer_tag e)) x
     ≡ keys_of s.for_labels
     (entity_drawing mp (settings_shown s) place e
     (map_answer (value bundle τ []) (answer_held (name_at bundle τ.properties) (layer bundle τ []) x)))
 unfolding keys_in keys_of entity_drawing styles pick
-entity_keys_lem bundle τ s mp place e (NoMaps r, t) h = ap stopped (h r t refl)
-entity_keys_lem bundle τ s mp place e (Maps n, t) h =
+entity_keys_lem bundle τ s mp place e (Err r, t) h = ap stopped (h r t refl)
+entity_keys_lem bundle τ s mp place e (Ok n, t) h =
     let v = map (valued bundle τ t) (places 0 n) in
     let base = lookup default_name v in
     let rows = styled_rows bundle τ.selectors t n in

@@ -13,13 +13,8 @@ use Rattle.base.specs.Bytes.{Bytes}
 use Rattle.base.specs.Choice.{pick, pick_split}
 use Rattle.base.specs.Turns.{Turn, turns}
 use Rattle.base.specs.declared.refusal.Refusal.{Refusal}
-use Rattle.entity.specs.Elim.{on-EntityAt, on-NextEntity}
 use Rattle.entity.specs.Layout.{value_of, entity_at, next_of, Stream, stream_from, stream_of}
-use Rattle.entity.specs.declared.EntityAt.{EntityAt}
-use Rattle.entity.specs.declared.EntityAt.TheVariants.{NoEntity, Whole}
 use Rattle.entity.specs.declared.EntityRange.{EntityRange}
-use Rattle.entity.specs.declared.NextEntity.{NextEntity}
-use Rattle.entity.specs.declared.NextEntity.TheVariants.{BadNext, NoMore, Next}
 use Rattle.entity.specs.declared.Sort.{Sort}
 use Rattle.entity.proofs.Inverse.{end_there}
 use Rattle.sheet.specs.Sheet.{Rule, Value}
@@ -39,35 +34,37 @@ use Rattle.shown.specs.Draws.{ended, stream_drawn}
 use Rattle.shown.proofs.Rows.{value}
 use Rattle.shown.proofs.StylesAre.{numbered_rules}
 use Rattle.shown.proofs.DrawKeys.{key_for, keys_of, entity_keys_lem, push_is}
+use Rattle.std.specs.Prelude.{Option, Some, None, Result, Ok, Err}
+use Rattle.base.specs.Option.{on_option, on_result}
 
 -- ---- an entity that is read ends behind its place
 
-bad_next : {A : Type 0} (b : Refusal) (r : EntityRange) → BadNext b ≡ Next r → A
+bad_next : {A : Type 0} (b : Refusal) (r : EntityRange) → Err b ≡ Ok (Some r) → A
 bad_next b r p = let z : ◌≡◌ {A = ℕ} 0 1 = cc in absurd (omega arith)
 
-no_next : {A : Type 0} (r : EntityRange) → NoMore ≡ Next r → A
+no_next : {A : Type 0} (r : EntityRange) → ◌≡◌ {A = Result (Option EntityRange) Refusal} (Ok None) (Ok (Some r)) → A
 no_next r p = let z : ◌≡◌ {A = ℕ} 0 1 = cc in absurd (omega arith)
 
-picked : (t : Bool) (o r : EntityRange) (b : Refusal) → pick t (Next o) (BadNext b) ≡ Next r → o ≡ r
+picked : (t : Bool) (o r : EntityRange) (b : Refusal) → pick t (Ok (Some o)) (Err b) ≡ Ok (Some r) → o ≡ r
 unfolding pick
 picked true o r b p = cc
 picked false o r b p = bad_next b r p
 
 read_whole :
-    (x : EntityAt) (t : EntityRange → Bool) (b c : Refusal) (r : EntityRange)
-    → on-EntityAt x (BadNext b) (λ e. pick (t e) (Next e) (BadNext c)) ≡ Next r
-    → x ≡ Whole r
-unfolding on-EntityAt
-read_whole NoEntity t b c r p = bad_next b r p
-read_whole (Whole o) t b c r p = ap Whole (picked (t o) o r c p)
+    (x : Option EntityRange) (t : EntityRange → Bool) (b c : Refusal) (r : EntityRange)
+    → on_option x (Err b) (λ e. pick (t e) (Ok (Some e)) (Err c)) ≡ Ok (Some r)
+    → x ≡ Some r
+unfolding on_option
+read_whole None t b c r p = bad_next b r p
+read_whole (Some o) t b c r p = ap Some (picked (t o) o r c p)
 
 next_forward :
     (sort : Sort) (mp : Bool) (s : Bytes) (at place : ℕ) (r : EntityRange)
-    → next_of sort mp s at place ≡ Next r
+    → next_of sort mp s at place ≡ Ok (Some r)
     → (at < length s) × (at < r.end)
 unfolding next_of
 next_forward sort mp s at place r =
-    let P : NextEntity → Type 0 = λ x. x ≡ Next r → (at < length s) × (at < r.end) in
+    let P : Result (Option EntityRange) Refusal → Type 0 = λ x. x ≡ Ok (Some r) → (at < length s) × (at < r.end) in
     pick_split P (ltb 1048576 (length s)) _ _
     (λ a. bad_next _ r)
     (λ a.
@@ -130,12 +127,12 @@ module _
       (d : Gathered) (fuel : ℕ) (at place : ℕ) (xs : List Drawn) (e : EntityRange)
       → Rest d fuel
       → length b - e.end < fuel
-      → next_of sort mp b at place ≡ Next e
+      → next_of sort mp b at place ≡ Ok (Some e)
       → (x : Drawing)
       → fit room (length xs) (one place e) ≡ x
       → turns turn d (suc fuel) (spot at place xs)
       ≡ keys_of l (join ◌++◌ (entries xs) (left (length xs) place (stream_from (suc fuel) sort mp b at place)))
-  unfolding turns gather_turn on-NextEntity on-Gathered stream_from stream_within join keys_of size
+  unfolding turns gather_turn on_result on_option on-Gathered stream_from stream_within join keys_of size
   read_on d fuel at place xs e rest h p (declined r) q =
       rw (gather_turn, p, one_keys e place, push_is l room xs (one place e), q)
   read_on d fuel at place xs e rest h p (entries ys) q =
@@ -152,14 +149,14 @@ module _
       (d : Gathered) (fuel : ℕ) (at place : ℕ) (xs : List Drawn)
       → Rest d fuel
       → length b - at < suc fuel
-      → (x : NextEntity)
+      → (x : Result (Option EntityRange) Refusal)
       → next_of sort mp b at place ≡ x
       → turns turn d (suc fuel) (spot at place xs)
       ≡ keys_of l (join ◌++◌ (entries xs) (left (length xs) place (stream_from (suc fuel) sort mp b at place)))
-  unfolding turns gather_turn on-NextEntity stream_from stream_within join keys_of ended
-  next_on d fuel at place xs rest h (BadNext r) p = rw (gather_turn, p)
-  next_on d fuel at place xs rest h NoMore p = rw (gather_turn, p, append-nil xs)
-  next_on d fuel at place xs rest h (Next e) p =
+  unfolding turns gather_turn on_result on_option stream_from stream_within join keys_of ended
+  next_on d fuel at place xs rest h (Err r) p = rw (gather_turn, p)
+  next_on d fuel at place xs rest h (Ok None) p = rw (gather_turn, p, append-nil xs)
+  next_on d fuel at place xs rest h (Ok (Some e)) p =
       let f = next_forward sort mp b at place e p in
       read_on d fuel at place xs e rest (omega arith) p (fit room (length xs) (one place e)) refl
 

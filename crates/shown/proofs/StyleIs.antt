@@ -4,7 +4,7 @@ use mathlib.Core.Path.{◌≡◌, refl, sym, ◌∙◌, ap, ap₂}
 use mathlib.Core.Bool.{Bool, true, false, not, cond, ◌&&◌}
 use mathlib.Core.List.{List, [], ◌∷◌, ◌++◌, map, append_assoc}
 use mathlib.Core.Option
-use mathlib.Core.Option.{Option, none, some}
+use mathlib.Core.Option.{Option as Maybe, none, some}
 use lib.Dec.{eqb, ltb}
 use lib.Ieee.{Float, binary64, add, mul}
 use lib.ListN.{length, get_or, take, drop}
@@ -14,7 +14,6 @@ use borrow.Author.Tests.{eqb-true, eq-eqb, lt-ltb, le-ltb, ltb-true, ltb-false, 
 use Rattle.base.specs.Choice.{pick, by-test, clash, and_left, and_right}
 use Rattle.base.specs.Map.{Map, lookup}
 use Rattle.color.specs.Named.{Named, named_colors, first_named, color_named}
-use Rattle.color.specs.declared.NamedColor.TheVariants.{Unknown, Known}
 use Rattle.cascade.specs.Map.{and_map, or_else}
 use Rattle.cascade.specs.Number.{whole}
 use Rattle.cascade.specs.Style as theory
@@ -23,21 +22,19 @@ use Rattle.sheet.specs.Sheet.{Value, identifier, string, color, numbers, width_d
 use Rattle.table.specs.Value.{value_at}
 use Rattle.table.specs.declared.Name.TheVariants.{Plain, Joined}
 use Rattle.table.specs.declared.PropertyValue.TheVariants.{NoValue, Identifier, Text, Shade, Numbers, WidthDelta}
-use Rattle.tag_number.specs.declared.LayerTag.{LayerTag}
 use Rattle.decode.specs.Decode.{joined_at, name_at, property_at, value_of}
 use Rattle.keep.specs.Lent.{Lent}
 use Rattle.walk.specs.Rows.{place_of}
-use Rattle.style.specs.Get.{property_in, absent, measure, name_color, color_of, one_of, number_of, delta_of, dashes_of, text_of, name_range, word_range, word_of, cap_named, position_named}
+use Rattle.style.specs.Get.{property_in, name_color, color_of, one_of, number_of, delta_of, dashes_of, text_of, name_range, word_range, word_of, cap_named, position_named}
 use Rattle.style.specs.Style.{default_z, z_index_of, casing_multiplier, base_width, casing_only, full_casing, multiplier_of, font_size, text_style_of, style_at}
-use Rattle.style.specs.declared.Measure.{Measure}
+use Rattle.base.specs.Option.{on_option}
 use Rattle.style.specs.declared.Settings.{Settings}
-use Rattle.style.specs.declared.StyleText.{StyleText}
-use Rattle.style.specs.declared.StyleText.TheVariants.{NoText, Shown}
 use Rattle.style.specs.declared.StyleType.{StyleType}
 use Rattle.style.specs.declared.StyleType.TheVariants.{Josm, MapsMe}
-use Rattle.style.specs.declared.get.Property.{Property}
-use Rattle.style.specs.declared.get.Property.TheVariants.{Missing, Has}
 use Rattle.shown.specs.Style.{measure_shown, layer_shown, cap_shown, position_shown, type_shown, settings_shown, text_shown, dashes_shown, with_text, style_shown, properties_of, StyleIs}
+use Rattle.std.specs.Prelude.{Option, Some, None}
+use Rattle.table.specs.declared.Name.{Name}
+use Rattle.table.specs.declared.PropertyValue.{PropertyValue}
 
 -- ---- a name with a colon is none of the words
 
@@ -65,18 +62,18 @@ all_plain : List Named → Bool
 all_plain [] = true
 all_plain (e ∷ es) = plain e.name && all_plain es
 
-joined_no_color : (a b : Bytes) (es : List Named) → all_plain es ≡ true → first_named es (a ++ ascii ":" ++ b) ≡ Unknown
+joined_no_color : (a b : Bytes) (es : List Named) → all_plain es ≡ true → first_named es (a ++ ascii ":" ++ b) ≡ None
 unfolding first_named all_plain pick
 joined_no_color a b [] p = refl
 joined_no_color a b (e ∷ es) p =
     rw (colon_differs a b e.name (and_left (plain e.name) (all_plain es) p))
     (joined_no_color a b es (and_right (plain e.name) (all_plain es) p))
 
-joined_unknown : (a b : Bytes) → color_named (a ++ ascii ":" ++ b) ≡ Unknown
+joined_unknown : (a b : Bytes) → color_named (a ++ ascii ":" ++ b) ≡ None
 unfolding color_named all_plain plain
 joined_unknown a b = joined_no_color a b named_colors refl
 
-nothing_unknown : Unknown ≡ color_named []
+nothing_unknown : None ≡ color_named []
 unfolding color_named first_named same pick
 nothing_unknown = refl
 
@@ -88,8 +85,8 @@ ltb_suc a b =
 
 -- ---- what a getter reads
 
-abbrev pub shown : Measure → Option Float
-shown m = measure_shown m.present m.value
+abbrev pub shown : Option Float → Maybe Float
+shown m = measure_shown m
 
 one_is : (xs : List Float) → shown (one_of xs) ≡ as_number (some (numbers xs))
 unfolding one_of measure_shown as_number
@@ -140,103 +137,103 @@ unfolding position_names lookup plain
 no_position a b = rw (colon_differs a b (ascii "center") refl, colon_differs a b (ascii "line") refl)
 
 module _ (bundle : Bytes) (τ : Lent) where
-  unfoldable valued : Property → Option Value
-  valued Missing = none
-  valued (Has v) = some (value_of bundle τ v)
+  unfoldable valued : Option PropertyValue → Maybe Value
+  valued None = none
+  valued (Some v) = some (value_of bundle τ v)
 
-  color_is : (p : Property) → named_color (color_of bundle p) ≡ as_color (valued p)
+  color_is : (p : Option PropertyValue) → named_color (color_of bundle p) ≡ as_color (valued p)
   unfolding color_of name_color as_color valued named_color
-  color_is Missing = refl
-  color_is (Has NoValue) = ap named_color nothing_unknown
-  color_is (Has (Identifier (Plain a))) = refl
-  color_is (Has (Identifier (Joined a b))) = sym (ap named_color (joined_unknown (within a bundle) (within b bundle)))
-  color_is (Has (Text a)) = refl
-  color_is (Has (Shade c)) = refl
-  color_is (Has (Numbers r)) = refl
-  color_is (Has (WidthDelta x)) = refl
+  color_is None = refl
+  color_is (Some NoValue) = ap named_color nothing_unknown
+  color_is (Some (Identifier (Plain a))) = refl
+  color_is (Some (Identifier (Joined a b))) = sym (ap named_color (joined_unknown (within a bundle) (within b bundle)))
+  color_is (Some (Text a)) = refl
+  color_is (Some (Shade c)) = refl
+  color_is (Some (Numbers r)) = refl
+  color_is (Some (WidthDelta x)) = refl
 
-  number_is : (p : Property) → shown (number_of τ.numbers p) ≡ as_number (valued p)
+  number_is : (p : Option PropertyValue) → shown (number_of τ.numbers p) ≡ as_number (valued p)
   unfolding number_of measure_shown as_number valued
-  number_is Missing = refl
-  number_is (Has NoValue) = refl
-  number_is (Has (Identifier (Plain a))) = refl
-  number_is (Has (Identifier (Joined a b))) = refl
-  number_is (Has (Text a)) = refl
-  number_is (Has (Shade c)) = refl
-  number_is (Has (Numbers r)) = one_is (take (r.to - r.from) (drop r.from τ.numbers))
-  number_is (Has (WidthDelta x)) = refl
+  number_is None = refl
+  number_is (Some NoValue) = refl
+  number_is (Some (Identifier (Plain a))) = refl
+  number_is (Some (Identifier (Joined a b))) = refl
+  number_is (Some (Text a)) = refl
+  number_is (Some (Shade c)) = refl
+  number_is (Some (Numbers r)) = one_is (take (r.to - r.from) (drop r.from τ.numbers))
+  number_is (Some (WidthDelta x)) = refl
 
-  delta_is : (p : Property) → shown (delta_of p) ≡ as_delta (valued p)
+  delta_is : (p : Option PropertyValue) → shown (delta_of p) ≡ as_delta (valued p)
   unfolding delta_of measure_shown as_delta valued
-  delta_is Missing = refl
-  delta_is (Has NoValue) = refl
-  delta_is (Has (Identifier (Plain a))) = refl
-  delta_is (Has (Identifier (Joined a b))) = refl
-  delta_is (Has (Text a)) = refl
-  delta_is (Has (Shade c)) = refl
-  delta_is (Has (Numbers r)) = refl
-  delta_is (Has (WidthDelta x)) = refl
+  delta_is None = refl
+  delta_is (Some NoValue) = refl
+  delta_is (Some (Identifier (Plain a))) = refl
+  delta_is (Some (Identifier (Joined a b))) = refl
+  delta_is (Some (Text a)) = refl
+  delta_is (Some (Shade c)) = refl
+  delta_is (Some (Numbers r)) = refl
+  delta_is (Some (WidthDelta x)) = refl
 
-  dashes_is : (p : Property) → dashes_shown bundle τ.numbers (dashes_of p) ≡ as_dashes (valued p)
+  dashes_is : (p : Option PropertyValue) → dashes_shown bundle τ.numbers (dashes_of p) ≡ as_dashes (valued p)
   unfolding dashes_of dashes_shown as_dashes valued
-  dashes_is Missing = refl
-  dashes_is (Has NoValue) = refl
-  dashes_is (Has (Identifier (Plain a))) = refl
-  dashes_is (Has (Identifier (Joined a b))) = refl
-  dashes_is (Has (Text a)) = refl
-  dashes_is (Has (Shade c)) = refl
-  dashes_is (Has (Numbers r)) = refl
-  dashes_is (Has (WidthDelta x)) = refl
+  dashes_is None = refl
+  dashes_is (Some NoValue) = refl
+  dashes_is (Some (Identifier (Plain a))) = refl
+  dashes_is (Some (Identifier (Joined a b))) = refl
+  dashes_is (Some (Text a)) = refl
+  dashes_is (Some (Shade c)) = refl
+  dashes_is (Some (Numbers r)) = refl
+  dashes_is (Some (WidthDelta x)) = refl
 
-  text_is : (p : Property) → text_shown bundle τ.numbers (text_of p) ≡ as_text (valued p)
+  text_is : (p : Option PropertyValue) → text_shown bundle τ.numbers (text_of p) ≡ as_text (valued p)
   unfolding text_of text_shown as_text valued
-  text_is Missing = refl
-  text_is (Has NoValue) = refl
-  text_is (Has (Identifier (Plain a))) = refl
-  text_is (Has (Identifier (Joined a b))) = refl
-  text_is (Has (Text a)) = refl
-  text_is (Has (Shade c)) = refl
-  text_is (Has (Numbers r)) = refl
-  text_is (Has (WidthDelta x)) = refl
+  text_is None = refl
+  text_is (Some NoValue) = refl
+  text_is (Some (Identifier (Plain a))) = refl
+  text_is (Some (Identifier (Joined a b))) = refl
+  text_is (Some (Text a)) = refl
+  text_is (Some (Shade c)) = refl
+  text_is (Some (Numbers r)) = refl
+  text_is (Some (WidthDelta x)) = refl
 
-  cap_is : (p : Property) → cap_shown (cap_named (word_of bundle p)) ≡ and_map (λ i. lookup i cap_names) (as_identifier (valued p))
+  cap_is : (p : Option PropertyValue) → cap_shown (cap_named (word_of bundle p)) ≡ and_map (λ i. lookup i cap_names) (as_identifier (valued p))
   unfolding word_range name_range as_identifier valued and_map
-  cap_is Missing = cap_none
-  cap_is (Has NoValue) = cap_named_lem []
-  cap_is (Has (Identifier (Plain a))) = cap_named_lem (within a bundle)
-  cap_is (Has (Identifier (Joined a b))) = cap_none ∙ sym (no_cap (within a bundle) (within b bundle))
-  cap_is (Has (Text a)) = cap_none
-  cap_is (Has (Shade c)) = cap_none
-  cap_is (Has (Numbers r)) = cap_none
-  cap_is (Has (WidthDelta x)) = cap_none
+  cap_is None = cap_none
+  cap_is (Some NoValue) = cap_named_lem []
+  cap_is (Some (Identifier (Plain a))) = cap_named_lem (within a bundle)
+  cap_is (Some (Identifier (Joined a b))) = cap_none ∙ sym (no_cap (within a bundle) (within b bundle))
+  cap_is (Some (Text a)) = cap_none
+  cap_is (Some (Shade c)) = cap_none
+  cap_is (Some (Numbers r)) = cap_none
+  cap_is (Some (WidthDelta x)) = cap_none
 
   position_is :
-      (p : Property)
+      (p : Option PropertyValue)
       → position_shown (position_named (word_of bundle p)) ≡ and_map (λ i. lookup i position_names) (as_identifier (valued p))
   unfolding word_range name_range as_identifier valued and_map
-  position_is Missing = position_none
-  position_is (Has NoValue) = position_named_lem []
-  position_is (Has (Identifier (Plain a))) = position_named_lem (within a bundle)
-  position_is (Has (Identifier (Joined a b))) = position_none ∙ sym (no_position (within a bundle) (within b bundle))
-  position_is (Has (Text a)) = position_none
-  position_is (Has (Shade c)) = position_none
-  position_is (Has (Numbers r)) = position_none
-  position_is (Has (WidthDelta x)) = position_none
+  position_is None = position_none
+  position_is (Some NoValue) = position_named_lem []
+  position_is (Some (Identifier (Plain a))) = position_named_lem (within a bundle)
+  position_is (Some (Identifier (Joined a b))) = position_none ∙ sym (no_position (within a bundle) (within b bundle))
+  position_is (Some (Text a)) = position_none
+  position_is (Some (Shade c)) = position_none
+  position_is (Some (Numbers r)) = position_none
+  position_is (Some (WidthDelta x)) = position_none
 
-  background_is : (p : Property) → same (word_of bundle p) (ascii "background") ≡ is_background (as_identifier (valued p))
+  background_is : (p : Option PropertyValue) → same (word_of bundle p) (ascii "background") ≡ is_background (as_identifier (valued p))
   unfolding word_range name_range as_identifier valued is_background same plain
-  background_is Missing = refl
-  background_is (Has NoValue) = refl
-  background_is (Has (Identifier (Plain a))) = refl
-  background_is (Has (Identifier (Joined a b))) = sym (colon_differs (within a bundle) (within b bundle) (ascii "background") refl)
-  background_is (Has (Text a)) = refl
-  background_is (Has (Shade c)) = refl
-  background_is (Has (Numbers r)) = refl
-  background_is (Has (WidthDelta x)) = refl
+  background_is None = refl
+  background_is (Some NoValue) = refl
+  background_is (Some (Identifier (Plain a))) = refl
+  background_is (Some (Identifier (Joined a b))) = sym (colon_differs (within a bundle) (within b bundle) (ascii "background") refl)
+  background_is (Some (Text a)) = refl
+  background_is (Some (Shade c)) = refl
+  background_is (Some (Numbers r)) = refl
+  background_is (Some (WidthDelta x)) = refl
 
   -- ---- the property of a name
 
-  abbrev pub found : List ℕ → Bytes → Property
+  abbrev pub found : List ℕ → Bytes → Option PropertyValue
   found row k = property_in bundle τ.properties τ.numbers row k
 
   found_is : (row : List ℕ) (k : Bytes) → valued (found row k) ≡ lookup k (properties_of bundle τ row)
@@ -249,7 +246,7 @@ module _ (bundle : Bytes) (τ : Lent) where
 
   -- ---- fields that are computed
 
-  abbrev pub read : List ℕ → Bytes → Option Value
+  abbrev pub read : List ℕ → Bytes → Maybe Value
   read row k = lookup k (properties_of bundle τ row)
 
   pub number_at_lem : (row : List ℕ) (k : Bytes) → shown (number_of τ.numbers (found row k)) ≡ as_number (read row k)
@@ -279,19 +276,20 @@ module _ (bundle : Bytes) (τ : Lent) where
       → not (same (word_of bundle (found row k)) (ascii "background")) ≡ not (is_background (as_identifier (read row k)))
   foreground_at row k = ap not (background_is (found row k) ∙ ap (λ o. is_background (as_identifier o)) (found_is row k))
 
-pub present_or : (m : Measure) (d : Float) → pick m.present m.value d ≡ Option.get_or (shown m) d
-unfolding pick measure_shown
-present_or m d = by-test m.present (λ e. rw e) (λ e. rw e)
+pub present_or : (m : Option Float) (d : Float) → on_option m d (λ x. x) ≡ Option.get_or (shown m) d
+unfolding on_option measure_shown
+present_or None d = refl
+present_or (Some x) d = refl
 
 default_z_lem : (k : ℕ) → default_z k ≡ theory.default_z k
 unfolding default_z theory.default_z pick
 default_z_lem k = by-test (eqb k 0) (λ e. rw e) (λ e. by-test (eqb k 2) (λ f. rw (e, f)) (λ f. rw (e, f)))
 
-pub z_is : (m : Measure) (k : ℕ) (o : Option Float) → shown m ≡ o → z_index_of m k ≡ Option.get_or o (theory.default_z k)
+pub z_is : (m : Option Float) (k : ℕ) (o : Maybe Float) → shown m ≡ o → z_index_of m k ≡ Option.get_or o (theory.default_z k)
 unfolding z_index_of
 z_is m k o e = present_or m (default_z k) ∙ ap₂ (λ x d. Option.get_or x d) e (default_z_lem k)
 
-base_is : (m : Measure) (d : Float) (o : Option Float) → shown m ≡ o → base_width m d ≡ Option.get_or o d
+base_is : (m : Option Float) (d : Float) (o : Maybe Float) → shown m ≡ o → base_width m d ≡ Option.get_or o d
 unfolding base_width
 base_is m d o e = present_or m d ∙ ap (λ x. Option.get_or x d) e
 
@@ -301,55 +299,49 @@ multiplier_is Josm = refl
 multiplier_is MapsMe = refl
 
 only_is :
-    (w : Float) (one delta : Measure) (o : Option Value)
+    (w : Float) (one delta : Option Float) (o : Maybe Value)
     → shown one ≡ as_number o
     → shown delta ≡ as_delta o
     → shown (casing_only w one delta) ≡ theory.casing_only w o
-unfolding casing_only theory.casing_only pick measure_shown or_else and_map
-only_is w one delta o e f =
-    by-test one.present
-    (λ a. rw (casing_only, theory.casing_only, ← e, a))
-    (λ a.
-    by-test delta.present
-    (λ b. rw (casing_only, theory.casing_only, ← e, ← f, a, b))
-    (λ b. rw (casing_only, theory.casing_only, ← e, ← f, a, b)))
+unfolding casing_only theory.casing_only on_option measure_shown or_else and_map
+only_is w (Some x) delta o e f = rw (theory.casing_only, ← e)
+only_is w None (Some d) o e f = rw (theory.casing_only, ← e, ← f)
+only_is w None None o e f = rw (theory.casing_only, ← e, ← f)
 
-full_is : (k w : Float) (m : Measure) (o : Option Float) → shown m ≡ o → shown (full_casing k w m) ≡ theory.full_casing k w o
-unfolding full_casing theory.full_casing pick measure_shown and_map
-full_is k w m o e =
-    by-test m.present (λ a. rw (full_casing, theory.full_casing, ← e, a)) (λ a. rw (full_casing, theory.full_casing, ← e, a))
+full_is : (k w : Float) (m : Option Float) (o : Maybe Float) → shown m ≡ o → shown (full_casing k w m) ≡ theory.full_casing k w o
+unfolding full_casing theory.full_casing on_option measure_shown and_map
+full_is k w (Some x) o e = rw (theory.full_casing, ← e)
+full_is k w None o e = rw (theory.full_casing, ← e)
 
 font_is :
-    (m : Measure) (s : Settings) (o : Option Float)
+    (m : Option Float) (s : Settings) (o : Maybe Float)
     → shown m ≡ o
     → shown (font_size m s)
     ≡ and_map (λ x. some (mul binary64 x (Option.get_or (settings_shown s).font_multiplier (whole 1)))) o
-unfolding font_size multiplier_of settings_shown pick measure_shown and_map
-font_is m s o e =
-    by-test m.present
-    (λ a. by-test s.has_font_multiplier (λ b. rw (font_size, multiplier_of, ← e, a, b)) (λ b. rw (font_size, multiplier_of, ← e, a, b)))
-    (λ a. rw (font_size, ← e, a))
+unfolding font_size multiplier_of settings_shown on_option measure_shown and_map
+font_is (Some x) s o e = rw (← e) (ap (λ k. some (mul binary64 x k)) (present_or s.font_multiplier (whole 1)))
+font_is None s o e = rw (← e) refl
 
 module _ (bundle : Bytes) (τ : Lent) (row : List ℕ) where
   abbrev m : Map Value
   m = properties_of bundle τ row
 
   label_is :
-      (x : StyleText) (o : Option Bytes) (s : Settings)
+      (x : Option Name) (o : Maybe Bytes) (s : Settings)
       → text_shown bundle τ.numbers x ≡ o
       → with_text bundle τ.numbers (text_style_of bundle τ.properties τ.numbers row x s)
       (text_shown bundle τ.numbers (text_style_of bundle τ.properties τ.numbers row x s).text)
       ≡ and_map (λ t. some (theory.text_of (settings_shown s) m t)) o
   unfolding text_style_of text_shown with_text and_map theory.text_of
-  label_is NoText o s e = rw (← e)
-  label_is (Shown (Plain a)) o s e =
+  label_is None o s e = rw (← e)
+  label_is (Some (Plain a)) o s e =
       rw (
         ← e,
         color_at_lem bundle τ row (ascii "text-color"),
         position_at bundle τ row (ascii "text-position"),
         font_is (number_of τ.numbers (found bundle τ row (ascii "font-size"))) s _ (number_at_lem bundle τ row (ascii "font-size")),
       )
-  label_is (Shown (Joined a b)) o s e =
+  label_is (Some (Joined a b)) o s e =
       rw (
         ← e,
         color_at_lem bundle τ row (ascii "text-color"),

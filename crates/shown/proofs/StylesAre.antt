@@ -12,7 +12,6 @@ use Rattle.base.specs.Bytes.{Bytes}
 use Rattle.base.specs.Choice.{pick}
 use Rattle.base.specs.Map.{Entry, Map, entry, lookup}
 use Rattle.base.specs.Entity.{Entity}
-use Rattle.entity.specs.Elim.{on-SingleEntity}
 use Rattle.entity.specs.Layout.{value_of}
 use Rattle.entity.specs.declared.EntityRange.{EntityRange}
 use Rattle.sheet.specs.Sheet.{Rule, Value}
@@ -24,13 +23,10 @@ use Rattle.cascade.specs.Style as theory
 use Rattle.cascade.specs.Style.{layer_tag, not_star, style_of, styles}
 use Rattle.cascade.specs.Walk.{Answer, refused, layers, property_maps}
 use Rattle.tag_number.specs.Told.{layer_told}
-use Rattle.tag_number.specs.declared.LayerTag.{LayerTag}
 use Rattle.decode.specs.Decode.{places, name_at, numbered_at, rules_at}
 use Rattle.keep.specs.Lent.{Lent, lent, counted}
 use Rattle.walk.specs.Maps.{walk_of}
 use Rattle.walk.specs.Rows.{numbers_at}
-use Rattle.walk.specs.declared.PropertyMaps.{PropertyMaps}
-use Rattle.walk.specs.declared.PropertyMaps.TheVariants.{NoMaps, Maps}
 use Rattle.walk.proofs.WalkLaws.{rules_few}
 use Rattle.maps.specs.Held.{answer_held, layers_held}
 use Rattle.maps.proofs.Held.{walk_is, few_layers}
@@ -41,6 +37,9 @@ use Rattle.shown.specs.Style.{settings_shown, properties_of}
 use Rattle.shown.specs.Styles.{Styling, declined, styled, styling_of, layer_shown, held_by, styles_held, StylesAre}
 use Rattle.shown.proofs.StyleIs.{style_is}
 use Rattle.shown.proofs.Rows.{value, layer, valued, layers_valued, styled_rows_lem, default_is}
+use Rattle.std.specs.Prelude.{Result, Ok, Err}
+use Rattle.base.specs.declared.refusal.Refusal.{Refusal}
+use Rattle.base.specs.Option.{on_result}
 
 -- what the code makes of the tag `layer` is the tag
 pub layer_told_lem : (o : Option ℤ) → one.layer_shown (layer_told o) ≡ o
@@ -94,24 +93,24 @@ module _ (bundle : Bytes) (τ : Lent) (s : Settings) (e : Entity) (t : List ℕ)
       ∙ ap (map (map_entry (style_of (settings_shown s) e (lookup default_name all)))) (sym (styled_rows_lem bundle τ t n)))
 
 abbrev pub Answered : Type 0
-Answered = PropertyMaps × List ℕ
+Answered = Result ℕ Refusal × List ℕ
 
 -- from the walk's answer
 pub from_walk :
     (bundle : Bytes) (τ : Lent) (s : Settings) (e : Entity) (x : Answered)
-    → ((k : ℕ) (t : List ℕ) → x ≡ (Maps k, t) → k ≤ 32)
+    → ((k : ℕ) (t : List ℕ) → x ≡ (Ok k, t) → k ≤ 32)
     → styles_held bundle τ.selectors τ.numbers
     (styles_from bundle τ.selectors τ.properties τ.numbers e.kind (layer_told (layer_tag e)) s x)
     ≡ styling_of (settings_shown s) e
     (map_answer (value bundle τ []) (answer_held (name_at bundle τ.properties) (layer bundle τ []) x))
 unfolding styles_from no_styles held_by styling_of
-from_walk bundle τ s e (NoMaps r, t) h = refl
-from_walk bundle τ s e (Maps n, t) h =
+from_walk bundle τ s e (Err r, t) h = refl
+from_walk bundle τ s e (Ok n, t) h =
     filled bundle τ s e t n (h n t refl)
     ∙ ap (λ v. styled (styles (settings_shown s) e v)) (sym (layers_valued bundle τ t n))
 
 pub styles_are : StylesAre
-unfolding styles_of pick on-SingleEntity value_of
+unfolding styles_of pick on_result value_of
 styles_are bundle rules selectors tests properties numbers colors n zoom s entity e sound one =
     let τ = lent (counted n.rules) rules selectors tests properties numbers colors in
     let d = value_of entity e in

@@ -1,5 +1,5 @@
 -- The drawing lists that calls answer are the theory's, with room for so many entries, over streams that may be any bytes.
-use Rattle.std.specs.Prelude.{ℕ, ◌≡◌, Bool, true, false, List, [], ◌∷◌, ◌++◌, map, Float, length, replicate}
+use Rattle.std.specs.Prelude.{ℕ, ◌≡◌, Bool, true, false, List, [], ◌∷◌, ◌++◌, map, Float, length, replicate, Result, Ok, Err}
 use Rattle.std.proofs.Math.Option.{Option, none, some}
 use Rattle.base.specs.Bytes.{Bytes}
 use Rattle.base.specs.Table.{padded, flat}
@@ -18,8 +18,6 @@ use Rattle.keep.specs.Lent.{lent, counted}
 use Rattle.style.specs.declared.Settings.{Settings}
 use Rattle.drawing.specs.Gather.{stream_rank}
 use Rattle.drawing.specs.Lists.{room_of, nodes_of, areas_of}
-use Rattle.drawing.specs.declared.DrawList.{DrawList}
-use Rattle.drawing.specs.declared.DrawList.TheVariants.{NoList, Listed}
 use Rattle.shown.specs.Style.{settings_shown}
 
 -- the refusal that ends a stream of bytes, behind all its entities
@@ -46,9 +44,9 @@ abbrev pub drawn_words : Drawn → List ℕ
 drawn_words d = word (stream_rank d.multipolygon) ∷ word d.place ∷ word d.styled ∷ []
 
 -- the answer, and the list of so many words: the entries, then zeros; all zero after a refusal
-unfoldable pub written : ℕ → Drawing → DrawList × List ℕ
-written len (declined r) = (NoList r, replicate len 0)
-written len (entries ds) = (Listed (length ds), padded 0 len (flat (map drawn_words ds)))
+unfoldable pub written : ℕ → Drawing → Result ℕ Refusal × List ℕ
+written len (declined r) = (Err r, replicate len 0)
+written len (entries ds) = (Ok (length ds), padded 0 len (flat (map drawn_words ds)))
 
 module _
     (bundle : Bytes) (rules selectors tests properties : List ℕ) (numbers : List Float) (colors : List ℕ) (n : Counts) where

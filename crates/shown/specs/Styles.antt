@@ -1,11 +1,10 @@
 -- The styles that a call answers, layer by layer, and that they are the theory's.
-use Rattle.std.specs.Prelude.{ℕ, ◌≤◌, ◌≡◌, Bool, true, List, map, Float, length, take}
+use Rattle.std.specs.Prelude.{ℕ, ◌≤◌, ◌≡◌, Bool, true, List, map, Float, length, take, Result, Ok, Err}
 use Rattle.base.specs.Bytes.{Bytes}
 use Rattle.base.specs.Map.{Entry, Map, entry}
 use Rattle.base.specs.Entity.{Entity}
 use Rattle.entity.specs.Layout.{single_of, value_of}
 use Rattle.entity.specs.declared.EntityRange.{EntityRange}
-use Rattle.entity.specs.declared.SingleEntity.TheVariants.{OneEntity}
 use Rattle.sheet.specs.Sheet.{Value}
 use Rattle.cascade.specs.Style as theory
 use Rattle.cascade.specs.Style.{styles}
@@ -18,10 +17,9 @@ use Rattle.walk.specs.Selectors.{layer_in}
 use Rattle.style.specs.declared.Settings.{Settings}
 use Rattle.styles.specs.Styles.{styles_of}
 use Rattle.styles.specs.declared.EntityStyles.{EntityStyles}
-use Rattle.styles.specs.declared.Styled.{Styled}
-use Rattle.styles.specs.declared.Styled.TheVariants.{NoStyles, Styles}
 use Rattle.styles.specs.declared.StyledLayer.{StyledLayer}
 use Rattle.shown.specs.Style.{settings_shown, style_shown}
+use Rattle.base.specs.declared.refusal.Refusal.{Refusal}
 
 -- a refusal's number, or the styles by the names of their layers
 pub data Styling : Type 0 where
@@ -38,9 +36,9 @@ module _ (bundle : Bytes) (selectors : List ℕ) (numbers : List Float) where
   abbrev pub layer_shown : StyledLayer → Entry theory.Style
   layer_shown x = entry (layer_in bundle selectors x.selector) (style_shown bundle numbers x.style)
 
-  unfoldable pub held_by : Styled → List StyledLayer → Styling
-  held_by (NoStyles r) ls = declined r.number
-  held_by (Styles k) ls = styled (map layer_shown (take k ls))
+  unfoldable pub held_by : Result ℕ Refusal → List StyledLayer → Styling
+  held_by (Err r) ls = declined r.number
+  held_by (Ok k) ls = styled (map layer_shown (take k ls))
 
   abbrev pub styles_held : EntityStyles → Styling
   styles_held x = held_by x.answer x.layers
@@ -51,7 +49,7 @@ StylesAre =
     (bundle : Bytes) (rules selectors tests properties : List ℕ) (numbers : List Float) (colors : List ℕ) (n : Counts) (zoom : ℕ)
     (s : Settings) (entity : Bytes) (e : EntityRange)
     → tables_sound rules selectors tests properties numbers n (length bundle) ≡ true
-    → single_of entity ≡ OneEntity e
+    → single_of entity ≡ Ok e
     → styles_held bundle selectors numbers (styles_of bundle rules selectors tests properties numbers n zoom s entity)
     ≡ styling_of (settings_shown s) (value_of entity e)
     (property_maps zoom (value_of entity e) (rules_at bundle (lent (counted n.rules) rules selectors tests properties numbers colors)))

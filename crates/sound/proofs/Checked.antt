@@ -16,8 +16,6 @@ use Rattle.color.specs.declared.Color.{Color}
 use Rattle.sheet.specs.Digits.{is_whole}
 use Rattle.table.specs.Value.{word_at, word}
 use Rattle.entries.specs.Words.{first_of, joined_word, second_from, second_to, layer_word, layer_from, layer_to}
-use Rattle.entries.specs.declared.LayerName.{LayerName}
-use Rattle.entries.specs.declared.LayerName.TheVariants.{Unnamed, Named}
 use Rattle.table.specs.declared.Name.{Name}
 use Rattle.table.specs.declared.Name.TheVariants.{Plain, Joined}
 use Rattle.valid.specs.Valid.{
@@ -41,6 +39,7 @@ use Rattle.valid.specs.Valid.{
 use Rattle.input.specs.Text.{Small}
 use Rattle.sound.specs.Lies.{Span, Lies, Layer}
 use Rattle.keep.proofs.Tints.{word_behind}
+use Rattle.std.specs.Prelude.{Option, Some, None}
 
 -- the eight words of entry i
 pub record Row (t : List ℕ) (i a b c d e f g h : ℕ) : Type 0 where
@@ -102,7 +101,7 @@ module _ (bundle : ℕ) (short : bundle < 4294967296) where
   -- ---- selectors
 
   pub selector_row :
-      (t : List ℕ) (i k lo hi a b m : ℕ) (n : LayerName)
+      (t : List ℕ) (i k lo hi a b m : ℕ) (n : Option Range)
       → Row t i k lo hi a b (layer_word n) (layer_from n) (layer_to n)
       → 1 ≤ k
       → k ≤ 6
@@ -110,9 +109,9 @@ module _ (bundle : ℕ) (short : bundle < 4294967296) where
       → Layer bundle n
       → selector_sound t m bundle i ≡ true
   unfolding selector_sound marked_span pick
-  selector_row t i k lo hi a b m Unnamed r h g p q =
+  selector_row t i k lo hi a b m None r h g p q =
       rw (r.w₀, span 1 k 6 h g, r.w₃, r.w₄, p, r.w₅, r.w₆, r.w₇) refl
-  selector_row t i k lo hi a b m (Named n) r h g p q =
+  selector_row t i k lo hi a b m (Some n) r h g p q =
       rw (r.w₀, span 1 k 6 h g, r.w₃, r.w₄, p, r.w₅, r.w₆, r.w₇) (ranged n q)
 
   -- ---- tests

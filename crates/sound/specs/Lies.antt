@@ -1,10 +1,8 @@
 -- What a reading must hold for its tables to pass the check of handed tables: names that stand in the bundle, whole numbers in
 -- `=` and `!=` tests, and colours of three bytes.
-use Rattle.std.specs.Prelude.{ℕ, ◌≤◌, ◌≡◌, true, List, [], ◌∷◌}
+use Rattle.std.specs.Prelude.{ℕ, ◌≤◌, ◌≡◌, true, List, [], ◌∷◌, Option, Some, None}
 use Rattle.base.specs.declared.Range.{Range}
 use Rattle.sheet.specs.Digits.{is_whole}
-use Rattle.entries.specs.declared.LayerName.{LayerName}
-use Rattle.entries.specs.declared.LayerName.TheVariants.{Unnamed, Named}
 use Rattle.table.specs.declared.Name.{Name}
 use Rattle.table.specs.declared.Name.TheVariants.{Plain, Joined}
 use Rattle.grammar.specs.Reading.{plain, digits, Test, unary, text, numeric, Value, word, quoted, colored, numbers, width_delta, Selector, Property, Rule, Item, rule_item, color_item}
@@ -24,9 +22,9 @@ module _ (bundle : ℕ) where
   Lies (Plain a) = Span a
   Lies (Joined a b) = Span a × Span b
 
-  abbrev pub Layer : LayerName → Type 0
-  Layer Unnamed = Unit {0}
-  Layer (Named a) = Span a
+  abbrev pub Layer : Option Range → Type 0
+  Layer None = Unit {0}
+  Layer (Some a) = Span a
 
   abbrev pub TestLies : Test → Type 0
   TestLies (unary o a) = Lies (name_shown a)

@@ -6,28 +6,28 @@ use mathlib.Core.List.{List, [], ◌∷◌}
 use lib.Ieee.{Float, nan}
 use lib.ListN.{length, take, drop, get_or, drop_of_length-le}
 use lib.Seq.{take_all, take-nil, drop-cons}
-use Rattle.style.specs.Get.{absent, measure, one_of}
-use Rattle.style.specs.declared.Measure.{Measure}
+use Rattle.style.specs.Get.{one_of}
+use Rattle.std.specs.Prelude.{Option, Some, None}
 
 module _ (numbers : List Float) (from to : ℕ) where
-  abbrev pub read : Measure
+  abbrev pub read : Option Float
   read = one_of (take (to - from) (drop from numbers))
 
-  pub one_past : (m : Measure) → m ≡ absent → length numbers ≤ from → m ≡ read
+  pub one_past : length numbers ≤ from → None ≡ read
   unfolding one_of
-  one_past m e h = rw (drop_of_length-le numbers h, take-nil) e
+  one_past h = rw (drop_of_length-le numbers h, take-nil)
 
   module _ (within : from < length numbers) where
-    pub one_empty : (m : Measure) → m ≡ absent → to ≤ from → m ≡ read
+    pub one_empty : to ≤ from → None ≡ read
     unfolding one_of
-    one_empty m e h = let z : to - from ≡ 0 = omega arith in rw z e
+    one_empty h = let z : to - from ≡ 0 = omega arith in rw z
 
     module _ (some : from < to) where
-      pub one_asked : to - from ≡ 1 → measure (get_or numbers from nan) ≡ read
+      pub one_asked : to - from ≡ 1 → Some (get_or numbers from nan) ≡ read
       unfolding one_of
       one_asked h = rw (h, drop-cons numbers from nan)
 
-      pub one_left : length numbers - from ≡ 1 → measure (get_or numbers from nan) ≡ read
+      pub one_left : length numbers - from ≡ 1 → Some (get_or numbers from nan) ≡ read
       unfolding one_of
       one_left h =
           let end : length numbers ≤ suc from = omega arith in
@@ -38,13 +38,11 @@ module _ (numbers : List Float) (from to : ℕ) where
           )
 
       pub one_several :
-          (m : Measure)
-          → m ≡ absent
-          → (to - from ≡ 1 → ⊥)
+          (to - from ≡ 1 → ⊥)
           → (length numbers - from ≡ 1 → ⊥)
-          → m ≡ read
+          → None ≡ read
       unfolding one_of
-      one_several m e h l =
+      one_several h l =
           let k : to - from ≡ suc (suc (to - from - 2)) = omega arith in
           let next : suc from < length numbers = omega arith in
-          rw (k, drop-cons numbers from nan within, drop-cons numbers (suc from) nan next) e
+          rw (k, drop-cons numbers from nan within, drop-cons numbers (suc from) nan next)

@@ -1,30 +1,29 @@
 // The getters of property_map_to_style: what a layer's property of a name is read as.
 ghost use Rattle.std.specs.Prelude.{◌≡◌, ◌-◌, take, drop};
-ghost use Rattle.style.specs.Get.{property_in, absent, color_of, name_color, one_of, number_of, delta_of, dashes_of, text_of, name_range, word_range, word_of, cap_named, position_named};
+ghost use Rattle.style.specs.Get.{property_in, color_of, name_color, one_of, number_of, delta_of, dashes_of, text_of, name_range, word_range, word_of, cap_named, position_named};
 ghost use Rattle.style.specs.Style.{color_in, number_in, delta_in, dashes_in, text_in, cap_in, position_in, is_word_in};
 
-use crate::{Dashes, LineCap, Measure, StyleText, TextPosition};
+use crate::{LineCap, TextPosition};
 use base::Range;
-use color::NamedColor;
+use color::Color;
 use table::{Name, PropertyValue};
 
-// The value of a layer's property, if the layer has it.
-#[derive(Clone, Copy)]
-pub enum Property {
-    Missing,
-    Has(PropertyValue),
-}
-
 // The property of a name in a row of property numbers.
-fn get(bundle: &[u8], properties: &[u32], numbers: &[f64], row: &[u32], name: &[u8]) -> Property
+fn get(
+    bundle: &[u8],
+    properties: &[u32],
+    numbers: &[f64],
+    row: &[u32],
+    name: &[u8],
+) -> Option<PropertyValue>
     ensures { result ≡ property_in bundle.now properties.now numbers.now row.now name.now }
 {
     let i = walk::names::find_name(bundle, properties, row, name);
     if i < row.len() {
         let p = row[i] as usize;
-        return Property::Has(table::property_value(properties, numbers, p));
+        return Some(table::property_value(properties, numbers, p));
     }
-    Property::Missing
+    None
 }
 
 pub fn get_color(
@@ -33,7 +32,7 @@ pub fn get_color(
     numbers: &[f64],
     row: &[u32],
     name: &[u8],
-) -> NamedColor
+) -> Option<Color>
     ensures { result ≡ color_in bundle.now properties.now numbers.now row.now name.now }
 {
     color_of(bundle, get(bundle, properties, numbers, row, name))
@@ -45,7 +44,7 @@ pub fn get_num(
     numbers: &[f64],
     row: &[u32],
     name: &[u8],
-) -> Measure
+) -> Option<f64>
     ensures { result ≡ number_in bundle.now properties.now numbers.now row.now name.now }
 {
     number_of(numbers, get(bundle, properties, numbers, row, name))
@@ -57,7 +56,7 @@ pub fn get_delta(
     numbers: &[f64],
     row: &[u32],
     name: &[u8],
-) -> Measure
+) -> Option<f64>
     ensures { result ≡ delta_in bundle.now properties.now numbers.now row.now name.now }
 {
     delta_of(get(bundle, properties, numbers, row, name))
@@ -69,7 +68,7 @@ pub fn get_string(
     numbers: &[f64],
     row: &[u32],
     name: &[u8],
-) -> StyleText
+) -> Option<Name>
     ensures { result ≡ text_in bundle.now properties.now numbers.now row.now name.now }
 {
     text_of(get(bundle, properties, numbers, row, name))
@@ -81,7 +80,7 @@ pub fn get_line_cap(
     numbers: &[f64],
     row: &[u32],
     name: &[u8],
-) -> LineCap
+) -> Option<LineCap>
     ensures { result ≡ cap_in bundle.now properties.now numbers.now row.now name.now }
 {
     cap_named(word_of(bundle, get(bundle, properties, numbers, row, name)))
@@ -93,7 +92,7 @@ pub fn get_text_position(
     numbers: &[f64],
     row: &[u32],
     name: &[u8],
-) -> TextPosition
+) -> Option<TextPosition>
     ensures { result ≡ position_in bundle.now properties.now numbers.now row.now name.now }
 {
     position_named(word_of(bundle, get(bundle, properties, numbers, row, name)))
@@ -105,7 +104,7 @@ pub fn get_dashes(
     numbers: &[f64],
     row: &[u32],
     name: &[u8],
-) -> Dashes
+) -> Option<Range>
     ensures { result ≡ dashes_in bundle.now properties.now numbers.now row.now name.now }
 {
     dashes_of(get(bundle, properties, numbers, row, name))
@@ -128,180 +127,152 @@ pub fn is_word(
     )
 }
 
-fn color_of(bundle: &[u8], p: Property) -> NamedColor
+fn color_of(bundle: &[u8], p: Option<PropertyValue>) -> Option<Color>
     ensures { result ≡ color_of bundle.now p }
 {
-    match p {
-        Property::Missing => NamedColor::Unknown,
-        Property::Has(v) => match v {
-            PropertyValue::NoValue => NamedColor::Unknown,
-            PropertyValue::Identifier(n) => name_color(bundle, n),
-            PropertyValue::Text(_) => NamedColor::Unknown,
-            PropertyValue::Shade(c) => NamedColor::Known(c),
-            PropertyValue::Numbers(_) => NamedColor::Unknown,
-            PropertyValue::WidthDelta(_) => NamedColor::Unknown,
-        },
+    let v = p?;
+    match v {
+        PropertyValue::NoValue => None,
+        PropertyValue::Identifier(n) => name_color(bundle, n),
+        PropertyValue::Text(_) => None,
+        PropertyValue::Shade(c) => Some(c),
+        PropertyValue::Numbers(_) => None,
+        PropertyValue::WidthDelta(_) => None,
     }
 }
 
 // No name with a colon is a colour's.
-fn name_color(bundle: &[u8], n: Name) -> NamedColor
+fn name_color(bundle: &[u8], n: Name) -> Option<Color>
     ensures { result ≡ name_color bundle.now n }
 {
     match n {
         Name::Plain(a) => color::from_color_name(base::part(bundle, a)),
-        Name::Joined(_, _) => NamedColor::Unknown,
+        Name::Joined(_, _) => None,
     }
 }
 
-fn absent() -> Measure
-    ensures { result ≡ absent }
-{
-    Measure {
-        present: false,
-        value: 0.0,
-    }
-}
-
-fn number_of(numbers: &[f64], p: Property) -> Measure
+fn number_of(numbers: &[f64], p: Option<PropertyValue>) -> Option<f64>
     ensures { result ≡ number_of numbers.now p }
 {
-    match p {
-        Property::Missing => absent(),
-        Property::Has(v) => match v {
-            PropertyValue::NoValue => absent(),
-            PropertyValue::Identifier(_) => absent(),
-            PropertyValue::Text(_) => absent(),
-            PropertyValue::Shade(_) => absent(),
-            PropertyValue::Numbers(r) => one_of(numbers, r),
-            PropertyValue::WidthDelta(_) => absent(),
-        },
+    let v = p?;
+    match v {
+        PropertyValue::NoValue => None,
+        PropertyValue::Identifier(_) => None,
+        PropertyValue::Text(_) => None,
+        PropertyValue::Shade(_) => None,
+        PropertyValue::Numbers(r) => one_of(numbers, r),
+        PropertyValue::WidthDelta(_) => None,
     }
 }
 
 // The only number of a range, cut to the table.
-fn one_of(numbers: &[f64], r: Range) -> Measure
+fn one_of(numbers: &[f64], r: Range) -> Option<f64>
     ensures { result ≡ one_of (take (r.to - r.from) (drop r.from numbers.now)) }
 {
     let n = numbers.len();
     let from = r.from;
     let to = r.to;
     if n <= from {
-        return absent();
+        return None;
     }
     if to <= from {
-        return absent();
+        return None;
     }
     if to - from == 1 {
-        return Measure {
-            present: true,
-            value: numbers[from],
-        };
+        return Some(numbers[from]);
     }
     if n - from == 1 {
-        return Measure {
-            present: true,
-            value: numbers[from],
-        };
+        return Some(numbers[from]);
     }
-    absent()
+    None
 }
 
-fn delta_of(p: Property) -> Measure
+fn delta_of(p: Option<PropertyValue>) -> Option<f64>
     ensures { result ≡ delta_of p }
 {
-    match p {
-        Property::Missing => absent(),
-        Property::Has(v) => match v {
-            PropertyValue::NoValue => absent(),
-            PropertyValue::Identifier(_) => absent(),
-            PropertyValue::Text(_) => absent(),
-            PropertyValue::Shade(_) => absent(),
-            PropertyValue::Numbers(_) => absent(),
-            PropertyValue::WidthDelta(x) => Measure {
-                present: true,
-                value: x,
-            },
-        },
+    let v = p?;
+    match v {
+        PropertyValue::NoValue => None,
+        PropertyValue::Identifier(_) => None,
+        PropertyValue::Text(_) => None,
+        PropertyValue::Shade(_) => None,
+        PropertyValue::Numbers(_) => None,
+        PropertyValue::WidthDelta(x) => Some(x),
     }
 }
 
-fn dashes_of(p: Property) -> Dashes
+fn dashes_of(p: Option<PropertyValue>) -> Option<Range>
     ensures { result ≡ dashes_of p }
 {
-    match p {
-        Property::Missing => Dashes::NoDashes,
-        Property::Has(v) => match v {
-            PropertyValue::NoValue => Dashes::NoDashes,
-            PropertyValue::Identifier(_) => Dashes::NoDashes,
-            PropertyValue::Text(_) => Dashes::NoDashes,
-            PropertyValue::Shade(_) => Dashes::NoDashes,
-            PropertyValue::Numbers(r) => Dashes::Dashed(r),
-            PropertyValue::WidthDelta(_) => Dashes::NoDashes,
-        },
+    let v = p?;
+    match v {
+        PropertyValue::NoValue => None,
+        PropertyValue::Identifier(_) => None,
+        PropertyValue::Text(_) => None,
+        PropertyValue::Shade(_) => None,
+        PropertyValue::Numbers(r) => Some(r),
+        PropertyValue::WidthDelta(_) => None,
     }
 }
 
-fn text_of(p: Property) -> StyleText
+fn text_of(p: Option<PropertyValue>) -> Option<Name>
     ensures { result ≡ text_of p }
 {
-    match p {
-        Property::Missing => StyleText::NoText,
-        Property::Has(v) => match v {
-            PropertyValue::NoValue => StyleText::Shown(Name::Plain(Range { from: 0, to: 0 })),
-            PropertyValue::Identifier(n) => StyleText::Shown(n),
-            PropertyValue::Text(a) => StyleText::Shown(Name::Plain(a)),
-            PropertyValue::Shade(_) => StyleText::NoText,
-            PropertyValue::Numbers(_) => StyleText::NoText,
-            PropertyValue::WidthDelta(_) => StyleText::NoText,
-        },
+    let v = p?;
+    match v {
+        PropertyValue::NoValue => Some(Name::Plain(Range { from: 0, to: 0 })),
+        PropertyValue::Identifier(n) => Some(n),
+        PropertyValue::Text(a) => Some(Name::Plain(a)),
+        PropertyValue::Shade(_) => None,
+        PropertyValue::Numbers(_) => None,
+        PropertyValue::WidthDelta(_) => None,
     }
 }
 
 // The bytes of an identifier of one part; no keyword has two.
-fn word_of<'a>(bundle: &'a [u8], p: Property) -> &'a [u8]
+fn word_of<'a>(bundle: &'a [u8], p: Option<PropertyValue>) -> &'a [u8]
     ensures { result.now ≡ word_of bundle.now p }
 {
     base::part(bundle, word_range(p))
 }
 
-fn cap_named(word: &[u8]) -> LineCap
+fn cap_named(word: &[u8]) -> Option<LineCap>
     ensures { result ≡ cap_named word.now }
 {
     if base::same_bytes(word, b"none") {
-        return LineCap::Butt;
+        return Some(LineCap::Butt);
     }
     if base::same_bytes(word, b"butt") {
-        return LineCap::Butt;
+        return Some(LineCap::Butt);
     }
     if base::same_bytes(word, b"round") {
-        return LineCap::Round;
+        return Some(LineCap::Round);
     }
     if base::same_bytes(word, b"square") {
-        return LineCap::Square;
+        return Some(LineCap::Square);
     }
-    LineCap::NoCap
+    None
 }
 
-fn position_named(word: &[u8]) -> TextPosition
+fn position_named(word: &[u8]) -> Option<TextPosition>
     ensures { result ≡ position_named word.now }
 {
     if base::same_bytes(word, b"center") {
-        return TextPosition::Center;
+        return Some(TextPosition::Center);
     }
     if base::same_bytes(word, b"line") {
-        return TextPosition::Line;
+        return Some(TextPosition::Line);
     }
-    TextPosition::NoPosition
+    None
 }
 
 // Where that identifier stands; an empty range for none.
-fn word_range(p: Property) -> Range
+fn word_range(p: Option<PropertyValue>) -> Range
     ensures { result ≡ word_range p }
 {
     match p {
-        Property::Missing => Range { from: 0, to: 0 },
-        Property::Has(v) => match v {
+        None => Range { from: 0, to: 0 },
+        Some(v) => match v {
             PropertyValue::NoValue => Range { from: 0, to: 0 },
             PropertyValue::Identifier(n) => name_range(n),
             PropertyValue::Text(_) => Range { from: 0, to: 0 },

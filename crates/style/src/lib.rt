@@ -4,12 +4,12 @@
 ghost use Rattle.std.specs.Prelude.{◌≡◌};
 ghost use Rattle.style.specs.Style.{default_z, casing_multiplier, base_width, width_or_zero, casing_only, full_casing, casing_width, multiplier_of, font_size, text_style_in, z_index_in, foreground_in, style_at};
 
-use color::NamedColor;
+use base::Range;
+use color::Color;
 use get::{
     get_color, get_dashes, get_delta, get_line_cap, get_num, get_string, get_text_position, is_word,
 };
 use table::Name;
-use tag_number::LayerTag;
 
 pub mod get;
 
@@ -21,7 +21,6 @@ pub enum StyleType {
 
 #[derive(Clone, Copy)]
 pub enum LineCap {
-    NoCap,
     Butt,
     Round,
     Square,
@@ -29,74 +28,46 @@ pub enum LineCap {
 
 #[derive(Clone, Copy)]
 pub enum TextPosition {
-    NoPosition,
     Center,
     Line,
-}
-
-// Dashes are a range of the table of numbers.
-#[derive(Clone, Copy)]
-pub enum Dashes {
-    NoDashes,
-    Dashed(base::Range),
-}
-
-// A text is a name of the bundle.
-#[derive(Clone, Copy)]
-pub enum StyleText {
-    NoText,
-    Shown(Name),
-}
-
-// A number that may be absent: then its value is 0.
-#[derive(Clone, Copy)]
-pub struct Measure {
-    pub present: bool,
-    pub value: f64,
 }
 
 // The arguments of a style call besides tables, counts, bundle, zoom and entities.
 #[derive(Clone, Copy)]
 pub struct Settings {
     pub style_type: StyleType,
-    pub has_font_multiplier: bool,
-    pub font_multiplier: f64,
+    pub font_multiplier: Option<f64>,
     pub for_labels: bool,
 }
 
 // Without a text nothing else is there.
 #[derive(Clone, Copy)]
 pub struct TextStyle {
-    pub text: StyleText,
-    pub text_color: NamedColor,
-    pub text_position: TextPosition,
-    pub has_font_size: bool,
-    pub font_size: f64,
+    pub text: Option<Name>,
+    pub text_color: Option<Color>,
+    pub text_position: Option<TextPosition>,
+    pub font_size: Option<f64>,
 }
 
 #[derive(Clone, Copy)]
 pub struct Style {
-    pub layer: LayerTag,
+    pub layer: Option<i64>,
     pub z_index: f64,
-    pub color: NamedColor,
-    pub fill_color: NamedColor,
+    pub color: Option<Color>,
+    pub fill_color: Option<Color>,
     pub is_foreground_fill: bool,
-    pub background_color: NamedColor,
-    pub has_opacity: bool,
-    pub opacity: f64,
-    pub has_fill_opacity: bool,
-    pub fill_opacity: f64,
-    pub has_width: bool,
-    pub width: f64,
-    pub dashes: Dashes,
-    pub line_cap: LineCap,
-    pub casing_color: NamedColor,
-    pub has_casing_width: bool,
-    pub casing_width: f64,
-    pub casing_dashes: Dashes,
-    pub casing_line_cap: LineCap,
-    pub icon_image: StyleText,
-    pub fill_image: StyleText,
+    pub background_color: Option<Color>,
+    pub opacity: Option<f64>,
+    pub fill_opacity: Option<f64>,
+    pub width: Option<f64>,
+    pub dashes: Option<Range>,
+    pub line_cap: Option<LineCap>,
+    pub casing_color: Option<Color>,
+    pub casing_width: Option<f64>,
+    pub casing_dashes: Option<Range>,
+    pub casing_line_cap: Option<LineCap>,
+    pub icon_image: Option<Name>,
+    pub fill_image: Option<Name>,
     pub text_style: TextStyle,
 }
 
@@ -108,7 +79,7 @@ pub fn property_map_to_style(
     numbers: &[f64],
     row: &[u32],
     kind: u8,
-    layer: LayerTag,
+    layer: Option<i64>,
     default_width: f64,
     settings: Settings,
 ) -> Style
@@ -127,17 +98,13 @@ pub fn property_map_to_style(
         fill_color: get_color(bundle, properties, numbers, row, b"fill-color"),
         is_foreground_fill: is_foreground_fill(bundle, properties, numbers, row),
         background_color: get_color(bundle, properties, numbers, row, b"background-color"),
-        has_opacity: opacity.present,
-        opacity: opacity.value,
-        has_fill_opacity: fill_opacity.present,
-        fill_opacity: fill_opacity.value,
-        has_width: width.present,
-        width: width.value,
+        opacity,
+        fill_opacity,
+        width,
         dashes: get_dashes(bundle, properties, numbers, row, b"dashes"),
         line_cap: get_line_cap(bundle, properties, numbers, row, b"linecap"),
         casing_color: get_color(bundle, properties, numbers, row, b"casing-color"),
-        has_casing_width: casing.present,
-        casing_width: casing.value,
+        casing_width: casing,
         casing_dashes: get_dashes(bundle, properties, numbers, row, b"casing-dashes"),
         casing_line_cap: get_line_cap(bundle, properties, numbers, row, b"casing-linecap"),
         icon_image: get_string(bundle, properties, numbers, row, b"icon-image"),
@@ -147,23 +114,23 @@ pub fn property_map_to_style(
 }
 
 // The width that a casing goes around: the layer's, else the default layer's.
-fn base_width(width: Measure, default_width: f64) -> f64
+fn base_width(width: Option<f64>, default_width: f64) -> f64
     ensures { result ≡ base_width width default_width }
 {
-    if width.present {
-        return width.value;
+    match width {
+        None => default_width,
+        Some(w) => w,
     }
-    default_width
 }
 
 // The width of a layer that may have none, and then counts as 0.
-pub fn width_or_zero(width: Measure) -> f64
+pub fn width_or_zero(width: Option<f64>) -> f64
     ensures { result ≡ width_or_zero width }
 {
-    if width.present {
-        return width.value;
+    match width {
+        None => 0.0,
+        Some(w) => w,
     }
-    0.0
 }
 
 // The full casing width.
@@ -174,7 +141,7 @@ fn casing_width(
     row: &[u32],
     base: f64,
     style_type: StyleType,
-) -> Measure
+) -> Option<f64>
     ensures { result ≡ casing_width bundle.now properties.now numbers.now row.now base style_type }
 {
     let one = get_num(bundle, properties, numbers, row, b"casing-width");
@@ -196,48 +163,33 @@ fn casing_multiplier(style_type: StyleType) -> f64
 }
 
 // A number, or a delta to the base width.
-fn casing_only(base: f64, one: Measure, delta: Measure) -> Measure
+fn casing_only(base: f64, one: Option<f64>, delta: Option<f64>) -> Option<f64>
     ensures { result ≡ casing_only base one delta }
 {
-    if one.present {
-        return one;
-    }
-    if delta.present {
-        return Measure {
-            present: true,
-            value: base + delta.value,
-        };
-    }
-    Measure {
-        present: false,
-        value: 0.0,
+    match one {
+        None => {
+            let d = delta?;
+            Some(base + d)
+        }
+        Some(w) => Some(w),
     }
 }
 
-fn full_casing(multiplier: f64, base: f64, m: Measure) -> Measure
+fn full_casing(multiplier: f64, base: f64, m: Option<f64>) -> Option<f64>
     ensures { result ≡ full_casing multiplier base m }
 {
-    if m.present {
-        return Measure {
-            present: true,
-            value: base + multiplier * m.value,
-        };
-    }
-    Measure {
-        present: false,
-        value: 0.0,
-    }
+    let w = m?;
+    Some(base + multiplier * w)
 }
 
 // The z-index of a layer, for an entity of a kind.
 pub fn z_index(bundle: &[u8], properties: &[u32], numbers: &[f64], row: &[u32], kind: u8) -> f64
     ensures { result ≡ z_index_in bundle.now properties.now numbers.now row.now kind }
 {
-    let z = get_num(bundle, properties, numbers, row, b"z-index");
-    if z.present {
-        return z.value;
+    match get_num(bundle, properties, numbers, row, b"z-index") {
+        None => default_z_index(kind),
+        Some(z) => z,
     }
-    default_z_index(kind)
 }
 
 fn default_z_index(kind: u8) -> f64
@@ -276,20 +228,19 @@ fn text_style(
     ensures { result ≡ text_style_in bundle.now properties.now numbers.now row.now settings }
 {
     match get_string(bundle, properties, numbers, row, b"text") {
-        StyleText::NoText => TextStyle {
-            text: StyleText::NoText,
-            text_color: NamedColor::Unknown,
-            text_position: TextPosition::NoPosition,
-            has_font_size: false,
-            font_size: 0.0,
+        None => TextStyle {
+            text: None,
+            text_color: None,
+            text_position: None,
+            font_size: None,
         },
-        StyleText::Shown(t) => {
+        Some(t) => {
             let size = font_size(
                 get_num(bundle, properties, numbers, row, b"font-size"),
                 settings,
             );
             TextStyle {
-                text: StyleText::Shown(t),
+                text: Some(t),
                 text_color: get_color(bundle, properties, numbers, row, b"text-color"),
                 text_position: get_text_position(
                     bundle,
@@ -298,33 +249,24 @@ fn text_style(
                     row,
                     b"text-position",
                 ),
-                has_font_size: size.present,
-                font_size: size.value,
+                font_size: size,
             }
         }
     }
 }
 
-fn font_size(m: Measure, settings: Settings) -> Measure
+fn font_size(m: Option<f64>, settings: Settings) -> Option<f64>
     ensures { result ≡ font_size m settings }
 {
-    if m.present {
-        return Measure {
-            present: true,
-            value: m.value * font_multiplier(settings),
-        };
-    }
-    Measure {
-        present: false,
-        value: 0.0,
-    }
+    let x = m?;
+    Some(x * font_multiplier(settings))
 }
 
 fn font_multiplier(settings: Settings) -> f64
     ensures { result ≡ multiplier_of settings }
 {
-    if settings.has_font_multiplier {
-        return settings.font_multiplier;
+    match settings.font_multiplier {
+        None => 1.0,
+        Some(k) => k,
     }
-    1.0
 }

@@ -5,32 +5,30 @@ use mathlib.Core.List.{List, ◌++◌}
 use native.Mathlib.Omega.{arith}
 use lib.ListN.{length, length-append}
 use Rattle.base.specs.Table.{stored}
-use Rattle.color.specs.declared.NamedColor.{NamedColor}
-use Rattle.color.specs.declared.NamedColor.TheVariants.{Unknown, Known}
 use Rattle.table.specs.declared.Name.TheVariants.{Plain, Joined}
-use Rattle.style.specs.declared.Dashes.{Dashes}
-use Rattle.style.specs.declared.Dashes.TheVariants.{NoDashes, Dashed}
-use Rattle.style.specs.declared.StyleText.{StyleText}
-use Rattle.style.specs.declared.StyleText.TheVariants.{NoText, Shown}
 use Rattle.styles.specs.declared.StyledLayer.{StyledLayer}
 use Rattle.style_rows.proofs.RowLaws.{put_all}
 use Rattle.style_rows.specs.Rows.{color_numbers, dash_numbers, text_numbers, scalars, row_words, row_floats}
+use Rattle.std.specs.Prelude.{Option, Some, None}
+use Rattle.color.specs.declared.Color.{Color}
+use Rattle.base.specs.declared.Range.{Range}
+use Rattle.table.specs.declared.Name.{Name}
 
-pub color_width : (c : NamedColor) → length (color_numbers c) ≡ 4
+pub color_width : (c : Option Color) → length (color_numbers c) ≡ 4
 unfolding color_numbers
-color_width Unknown = refl
-color_width (Known c) = refl
+color_width None = refl
+color_width (Some c) = refl
 
-pub dash_width : (d : Dashes) → length (dash_numbers d) ≡ 3
+pub dash_width : (d : Option Range) → length (dash_numbers d) ≡ 3
 unfolding dash_numbers
-dash_width NoDashes = refl
-dash_width (Dashed r) = refl
+dash_width None = refl
+dash_width (Some r) = refl
 
-pub text_width : (t : StyleText) → length (text_numbers t) ≡ 5
+pub text_width : (t : Option Name) → length (text_numbers t) ≡ 5
 unfolding text_numbers
-text_width NoText = refl
-text_width (Shown (Plain a)) = refl
-text_width (Shown (Joined a b)) = refl
+text_width None = refl
+text_width (Some (Plain a)) = refl
+text_width (Some (Joined a b)) = refl
 
 pub scalars_width : (x : StyledLayer) → length (scalars x) ≡ 11
 unfolding scalars

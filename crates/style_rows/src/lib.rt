@@ -3,14 +3,13 @@
 
 ghost use Rattle.std.specs.Prelude.{◌≡◌, [], ◌∷◌, map, ◌≤◌, min, pos, length, replicate, take};
 ghost use Rattle.base.specs.Table.{zero_float, padded, stored, flat};
-ghost use Rattle.style_rows.specs.Rows.{flag, cap_number, position_number, layer_number, has_layer, color_numbers, dash_numbers, text_numbers, scalars, row_words, row_floats, row_layer};
+ghost use Rattle.style_rows.specs.Rows.{flag, has_number, float_number, cap_number, position_number, layer_number, has_layer, color_numbers, dash_numbers, text_numbers, scalars, row_words, row_floats, row_layer};
 
-use base::{set_float, set_long, zero_floats};
-use color::NamedColor;
-use style::{Dashes, LineCap, StyleText, TextPosition};
+use base::{Range, set_float, set_long, zero_floats};
+use color::Color;
+use style::{LineCap, TextPosition};
 use styles::StyledLayer;
 use table::Name;
-use tag_number::LayerTag;
 
 // Stores the rows of the first n layers, 32 at most, and zeros behind them.
 pub fn store_layers(
@@ -100,21 +99,21 @@ fn fill_layers(all: [StyledLayer; 32], n: usize, layers: &mut [i64])
     }
 }
 
-fn layer_number(tag: LayerTag) -> i64
+fn layer_number(tag: Option<i64>) -> i64
     ensures { result ≡ layer_number tag }
 {
     match tag {
-        LayerTag::NoLayer => 0,
-        LayerTag::Layer(i) => i,
+        None => 0,
+        Some(i) => i,
     }
 }
 
-fn has_layer(tag: LayerTag) -> u64
+fn has_layer(tag: Option<i64>) -> u64
     ensures { result ≡ has_layer tag }
 {
     match tag {
-        LayerTag::NoLayer => 0,
-        LayerTag::Layer(_) => 1,
+        None => 0,
+        Some(_) => 1,
     }
 }
 
@@ -124,24 +123,46 @@ fn flag(b: bool) -> u64
     if b { 1 } else { 0 }
 }
 
-fn cap_number(c: LineCap) -> u64
-    ensures { result ≡ cap_number c }
+fn has_number(m: Option<f64>) -> u64
+    ensures { result ≡ has_number m }
 {
-    match c {
-        LineCap::NoCap => 0,
-        LineCap::Butt => 1,
-        LineCap::Round => 2,
-        LineCap::Square => 3,
+    match m {
+        None => 0,
+        Some(_) => 1,
     }
 }
 
-fn position_number(p: TextPosition) -> u64
+fn float_number(m: Option<f64>) -> f64
+    ensures { result ≡ float_number m }
+{
+    match m {
+        None => 0.0,
+        Some(x) => x,
+    }
+}
+
+fn cap_number(c: Option<LineCap>) -> u64
+    ensures { result ≡ cap_number c }
+{
+    match c {
+        None => 0,
+        Some(cap) => match cap {
+            LineCap::Butt => 1,
+            LineCap::Round => 2,
+            LineCap::Square => 3,
+        },
+    }
+}
+
+fn position_number(p: Option<TextPosition>) -> u64
     ensures { result ≡ position_number p }
 {
     match p {
-        TextPosition::NoPosition => 0,
-        TextPosition::Center => 1,
-        TextPosition::Line => 2,
+        None => 0,
+        Some(position) => match position {
+            TextPosition::Center => 1,
+            TextPosition::Line => 2,
+        },
     }
 }
 
@@ -188,28 +209,28 @@ fn store_scalars(x: StyledLayer, words: &mut [u64], at: usize)
     set_long(words, at, x.selector as u64);
     set_long(words, at + 1, has_layer(layer));
     set_long(words, at + 2, flag(s.is_foreground_fill));
-    set_long(words, at + 3, flag(s.has_opacity));
-    set_long(words, at + 4, flag(s.has_fill_opacity));
-    set_long(words, at + 5, flag(s.has_width));
-    set_long(words, at + 6, flag(s.has_casing_width));
-    set_long(words, at + 7, flag(text_style.has_font_size));
+    set_long(words, at + 3, has_number(s.opacity));
+    set_long(words, at + 4, has_number(s.fill_opacity));
+    set_long(words, at + 5, has_number(s.width));
+    set_long(words, at + 6, has_number(s.casing_width));
+    set_long(words, at + 7, has_number(text_style.font_size));
     set_long(words, at + 8, cap_number(line_cap));
     set_long(words, at + 9, cap_number(casing_line_cap));
     set_long(words, at + 10, position_number(text_position));
 }
 
-fn store_color(words: &mut [u64], at: usize, c: NamedColor)
+fn store_color(words: &mut [u64], at: usize, c: Option<Color>)
     requires { at ≤ 2000 }
     ensures { words.new ≡ stored words.old at (color_numbers c) }
 {
     match c {
-        NamedColor::Unknown => {
+        None => {
             set_long(words, at, 0);
             set_long(words, at + 1, 0);
             set_long(words, at + 2, 0);
             set_long(words, at + 3, 0);
         }
-        NamedColor::Known(k) => {
+        Some(k) => {
             set_long(words, at, 1);
             set_long(words, at + 1, k.r as u64);
             set_long(words, at + 2, k.g as u64);
@@ -218,17 +239,17 @@ fn store_color(words: &mut [u64], at: usize, c: NamedColor)
     }
 }
 
-fn store_dashes(words: &mut [u64], at: usize, d: Dashes)
+fn store_dashes(words: &mut [u64], at: usize, d: Option<Range>)
     requires { at ≤ 2000 }
     ensures { words.new ≡ stored words.old at (dash_numbers d) }
 {
     match d {
-        Dashes::NoDashes => {
+        None => {
             set_long(words, at, 0);
             set_long(words, at + 1, 0);
             set_long(words, at + 2, 0);
         }
-        Dashes::Dashed(r) => {
+        Some(r) => {
             set_long(words, at, 1);
             set_long(words, at + 1, r.from as u64);
             set_long(words, at + 2, r.to as u64);
@@ -236,13 +257,13 @@ fn store_dashes(words: &mut [u64], at: usize, d: Dashes)
     }
 }
 
-fn store_text(words: &mut [u64], at: usize, t: StyleText)
+fn store_text(words: &mut [u64], at: usize, t: Option<Name>)
     requires { at ≤ 2000 }
     ensures { words.new ≡ stored words.old at (text_numbers t) }
 {
     match t {
-        StyleText::NoText => store_ranges(words, at, 0, 0, 0, 0, 0),
-        StyleText::Shown(n) => match n {
+        None => store_ranges(words, at, 0, 0, 0, 0, 0),
+        Some(n) => match n {
             Name::Plain(a) => store_ranges(words, at, 1, a.from, a.to, 0, 0),
             Name::Joined(a, b) => store_ranges(words, at, 2, a.from, a.to, b.from, b.to),
         },
@@ -268,9 +289,9 @@ fn store_floats(x: StyledLayer, floats: &mut [f64], at: usize)
     let s = x.style;
     let text_style = s.text_style;
     set_float(floats, at, s.z_index);
-    set_float(floats, at + 1, s.opacity);
-    set_float(floats, at + 2, s.fill_opacity);
-    set_float(floats, at + 3, s.width);
-    set_float(floats, at + 4, s.casing_width);
-    set_float(floats, at + 5, text_style.font_size);
+    set_float(floats, at + 1, float_number(s.opacity));
+    set_float(floats, at + 2, float_number(s.fill_opacity));
+    set_float(floats, at + 3, float_number(s.width));
+    set_float(floats, at + 4, float_number(s.casing_width));
+    set_float(floats, at + 5, float_number(text_style.font_size));
 }

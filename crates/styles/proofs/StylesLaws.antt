@@ -20,67 +20,57 @@ use Rattle.base.specs.declared.refusal.Refusal.{Refusal}
 use Rattle.base.proofs.Compare.{between_past, rest_all}
 use Rattle.base.proofs.Tables.{padded_none, padded_set}
 use Rattle.group.specs.Pair.{pairs_at}
-use Rattle.entity.specs.Elim.{SingleEntity-BadEntity, SingleEntity-OneEntity}
 use Rattle.entity.specs.Layout.{single_of, value_of}
 use Rattle.entity.specs.declared.EntityRange.{EntityRange}
-use Rattle.entity.specs.declared.SingleEntity.{SingleEntity}
-use Rattle.entity.specs.declared.SingleEntity.TheVariants.{BadEntity, OneEntity}
 use Rattle.cascade.specs.Clause.{star, default_name}
 use Rattle.cascade.specs.Map.{keep, and_map}
 use Rattle.cascade.proofs.MapLaws.{keep_append}
 use Rattle.cascade.specs.Number.{as_integer, whole}
 use Rattle.cascade.specs.Style.{layer_tag}
-use Rattle.reader.specs.Elim.{on-TagValue}
 use Rattle.reader.specs.Tags.{value_in}
-use Rattle.reader.specs.declared.TagValue.{TagValue}
-use Rattle.reader.specs.declared.TagValue.TheVariants.{Absent, Value}
 use Rattle.reader.proofs.Lookup.{tag_value}
 use Rattle.tag_number.specs.Told.{layer_told}
-use Rattle.tag_number.specs.declared.LayerTag.{LayerTag}
-use Rattle.tag_number.specs.declared.LayerTag.TheVariants.{NoLayer}
 use Rattle.valid.specs.Valid.{tables_sound}
 use Rattle.valid.specs.declared.Counts.{Counts}
 use Rattle.decode.specs.Decode.{places}
 use Rattle.walk.specs.Maps.{walk_of, layer_place}
 use Rattle.walk.specs.Rows.{numbers_at}
 use Rattle.walk.specs.Selectors.{layer_in}
-use Rattle.walk.specs.declared.PropertyMaps.{PropertyMaps}
-use Rattle.walk.specs.declared.PropertyMaps.TheVariants.{NoMaps, Maps}
 use Rattle.style.specs.Style.{number_in, width_or_zero, style_at}
-use Rattle.style.specs.declared.Measure.{Measure}
 use Rattle.style.specs.declared.Settings.{Settings}
 use Rattle.style.specs.declared.Style.{Style}
 use Rattle.styles.specs.Styles.{blank_layer, no_styles, named_by, default_width, layer_styled, filled_layers, styles_from, walked_styles, styles_of}
 use Rattle.styles.specs.declared.EntityStyles.{EntityStyles}
-use Rattle.styles.specs.declared.Styled.TheVariants.{Styles}
 use Rattle.styles.specs.declared.StyledLayer.{StyledLayer}
+use Rattle.std.specs.Prelude.{Option, None, Result, Ok, Err, ℤ, Some}
+use Rattle.base.specs.Option.{on_option, result_err, result_ok}
 
 -- ---- the tag `layer`
 
-module _ (s : Bytes) (e : EntityRange) (v : TagValue) (i : v ≡ value_in s (ascii "layer") (pairs_at e.count s e.tags)) where
+module _ (s : Bytes) (e : EntityRange) (v : Option Range) (i : v ≡ value_in s (ascii "layer") (pairs_at e.count s e.tags)) where
   layer_of_lem :
-      (k : TagValue)
+      (k : Option Range)
       → v ≡ k
-      → layer_told (and_map as_integer (on-TagValue k none (λ r. some (within r s)))) ≡ layer_told (layer_tag (value_of s e))
+      → layer_told (and_map as_integer (on_option k none (λ r. some (within r s)))) ≡ layer_told (layer_tag (value_of s e))
   layer_of_lem k q =
       sym
       (ap (λ o. layer_told (and_map as_integer o))
-      (tag_value s (ascii "layer") e ∙ ap (λ x. on-TagValue x none (λ r. some (within r s))) (via i q)))
+      (tag_value s (ascii "layer") e ∙ ap (λ x. on_option x none (λ r. some (within r s))) (via i q)))
 
-  pub layer_absent : v ≡ Absent → NoLayer ≡ layer_told (layer_tag (value_of s e))
-  unfolding layer_told and_map on-TagValue
-  layer_absent q = layer_of_lem Absent q
+  pub layer_absent : v ≡ None → None ≡ layer_told (layer_tag (value_of s e))
+  unfolding layer_told and_map on_option
+  layer_absent q = layer_of_lem None q
 
   pub layer_there :
       (r : Range)
-      → v ≡ Value r
+      → v ≡ Some r
       → (t : Bytes)
       → t ≡ within r s
-      → (l : LayerTag)
+      → (l : Option ℤ)
       → l ≡ layer_told (as_integer t)
       → l ≡ layer_told (layer_tag (value_of s e))
-  unfolding and_map on-TagValue
-  layer_there r q t w l z = z ∙ ap (λ x. layer_told (as_integer x)) w ∙ layer_of_lem (Value r) q
+  unfolding and_map on_option
+  layer_there r q t w l z = z ∙ ap (λ x. layer_told (as_integer x)) w ∙ layer_of_lem (Some r) q
 
 -- ---- a row of a table of maps
 
@@ -108,7 +98,7 @@ module _ (bundle : Bytes) (selectors properties : List ℕ) (numbers : List Floa
       i < n
       → (row : List ℕ)
       → row ≡ numbers_at t i
-      → (m : Measure)
+      → (m : Option Float)
       → m ≡ number_in bundle properties numbers row (ascii "width")
       → (w : Float)
       → w ≡ width_or_zero m
@@ -184,7 +174,7 @@ module _ (p : ℕ → Bool) (f : ℕ → StyledLayer) where
         }
 
 -- what the loop leaves
-module _ (bundle : Bytes) (selectors properties : List ℕ) (numbers : List Float) (t : List ℕ) (n kind : ℕ) (layer : LayerTag)
+module _ (bundle : Bytes) (selectors properties : List ℕ) (numbers : List Float) (t : List ℕ) (n kind : ℕ) (layer : Option ℤ)
     (settings : Settings) where
   abbrev pub styled_by : ℕ → Bool
   styled_by i = not (same star (layer_in bundle selectors (named_by bundle selectors t i)))
@@ -221,34 +211,34 @@ module _ (bundle : Bytes) (selectors properties : List ℕ) (numbers : List Floa
       (i count : ℕ) (ls : List StyledLayer)
       → i ≡ n
       → StyledTo i count ls
-      → (record { answer = Styles count; layers = ls }) ≡ filled_layers bundle selectors properties numbers t n kind layer settings
+      → (record { answer = Ok count; layers = ls }) ≡ filled_layers bundle selectors properties numbers t n kind layer settings
   unfolding filled_layers
   filled_all i count ls e f =
-      ap₂ (λ k l. record { answer = Styles k; layers = l }) (sym f.counted) f.is
+      ap₂ (λ k l. record { answer = Ok k; layers = l }) (sym f.counted) f.is
       ∙ ap
       (λ (j : ℕ).
       let l = styled_of styled_by (layer_styled bundle selectors properties numbers t n kind layer settings) j in
-      record { answer = Styles (length l); layers = padded blank_layer 32 l }) e
+      record { answer = Ok (length l); layers = padded blank_layer 32 l }) e
 
 -- ---- the whole
 
 module _ (bundle rules selectors tests properties : List ℕ) (numbers : List Float) (total zoom : ℕ) (settings : Settings) (entity : Bytes)
-    (e : EntityRange) (a : PropertyMaps) (t : List ℕ)
+    (e : EntityRange) (a : Result ℕ Refusal) (t : List ℕ)
     (w : (a, t) ≡ walk_of bundle rules selectors tests properties numbers total zoom entity e false 0) (x : EntityStyles) where
-  abbrev tagged : LayerTag
+  abbrev tagged : Option ℤ
   tagged = layer_told (layer_tag (value_of entity e))
 
   abbrev walked : EntityStyles
   walked = walked_styles bundle rules selectors tests properties numbers total zoom settings entity e
 
-  pub walked_refused : (r : Refusal) → a ≡ NoMaps r → x ≡ no_styles r → x ≡ walked
+  pub walked_refused : (r : Refusal) → a ≡ Err r → x ≡ no_styles r → x ≡ walked
   unfolding styles_from
   walked_refused r q z = z ∙ sym (ap (styles_from bundle selectors properties numbers e.kind tagged settings) (via_with w q))
 
   pub walked_filled :
       (n : ℕ)
-      → a ≡ Maps n
-      → (l : LayerTag)
+      → a ≡ Ok n
+      → (l : Option ℤ)
       → l ≡ tagged
       → x ≡ filled_layers bundle selectors properties numbers t n e.kind l settings
       → x ≡ walked
@@ -267,15 +257,15 @@ module _ (bundle rules selectors tests properties : List ℕ) (numbers : List Fl
   unfolding styles_of
   styles_broken y r w z = if_false _ _ _ (via i (not-true b y)) (z ∙ ap no_styles w)
 
-  module _ (y : not b ≡ false) (q : SingleEntity) (j : q ≡ single_of entity) where
-    pub styles_bad : (r : Refusal) → q ≡ BadEntity r → x ≡ no_styles r → x ≡ styled
+  module _ (y : not b ≡ false) (q : Result EntityRange Refusal) (j : q ≡ single_of entity) where
+    pub styles_bad : (r : Refusal) → q ≡ Err r → x ≡ no_styles r → x ≡ styled
     unfolding styles_of
-    styles_bad r w z = if_true _ _ _ (via i (not-false b y)) (SingleEntity-BadEntity _ _ _ (via j w) z)
+    styles_bad r w z = if_true _ _ _ (via i (not-false b y)) (result_err _ _ _ (via j w) z)
 
     pub styles_walked :
         (e : EntityRange)
-        → q ≡ OneEntity e
+        → q ≡ Ok e
         → x ≡ walked_styles bundle rules selectors tests properties numbers n.rules zoom settings entity e
         → x ≡ styled
     unfolding styles_of
-    styles_walked e w z = if_true _ _ _ (via i (not-false b y)) (SingleEntity-OneEntity _ _ _ (via j w) z)
+    styles_walked e w z = if_true _ _ _ (via i (not-false b y)) (result_ok _ _ _ (via j w) z)

@@ -6,16 +6,12 @@ ghost use Rattle.styles.specs.Styles.{blank_layer, no_styles, layer_styled, fill
 
 use base::refusal::{Refusal, TABLE_BROKEN};
 use base::word_at;
-use color::NamedColor;
-use entity::{EntityRange, SingleEntity, single_entity};
+use entity::{EntityRange, single_entity};
 use parts::{default_width, row_of, tag_layer};
-use style::{
-    Dashes, LineCap, Settings, Style, StyleText, TextPosition, TextStyle, property_map_to_style,
-};
-use tag_number::LayerTag;
+use style::{Settings, Style, TextStyle, property_map_to_style};
 use valid::{Counts, is_sound};
 use walk::names::is_layer;
-use walk::{PropertyMaps, walk_entity};
+use walk::walk_entity;
 
 pub mod parts;
 
@@ -26,17 +22,10 @@ pub struct StyledLayer {
     pub style: Style,
 }
 
-// The refusal, or how many layers are styled.
-#[derive(Clone, Copy)]
-pub enum Styled {
-    NoStyles(Refusal),
-    Styles(usize),
-}
-
 // The answer, and the styled layers; behind them all is blank.
 #[derive(Clone, Copy)]
 pub struct EntityStyles {
-    pub answer: Styled,
+    pub answer: Result<usize, Refusal>,
     pub layers: [StyledLayer; 32],
 }
 
@@ -67,8 +56,8 @@ pub fn entity_styles(
         return no_styles(Refusal::plain(TABLE_BROKEN));
     }
     match single_entity(entity) {
-        SingleEntity::BadEntity(r) => no_styles(r),
-        SingleEntity::OneEntity(e) => walked_styles(
+        Err(r) => no_styles(r),
+        Ok(e) => walked_styles(
             bundle, rules, selectors, tests, properties, numbers, n.rules, zoom, settings, entity,
             e,
         ),
@@ -79,7 +68,7 @@ fn no_styles(r: Refusal) -> EntityStyles
     ensures { result ≡ no_styles r }
 {
     EntityStyles {
-        answer: Styled::NoStyles(r),
+        answer: Err(r),
         layers: [blank_layer(); 32],
     }
 }
@@ -105,8 +94,8 @@ fn walked_styles(
         bundle, rules, selectors, tests, properties, numbers, total, zoom, entity, e, false, 0,
         &mut maps,
     ) {
-        PropertyMaps::NoMaps(r) => no_styles(r),
-        PropertyMaps::Maps(n) => filled_layers(
+        Err(r) => no_styles(r),
+        Ok(n) => filled_layers(
             bundle,
             selectors,
             properties,
@@ -129,7 +118,7 @@ fn filled_layers(
     maps: &[u32; 4323],
     n: usize,
     kind: u8,
-    layer: LayerTag,
+    layer: Option<i64>,
     settings: Settings,
 ) -> EntityStyles
     requires { n ≤ 32 }
@@ -162,7 +151,7 @@ fn filled_layers(
         }
     }
     EntityStyles {
-        answer: Styled::Styles(count),
+        answer: Ok(count),
         layers,
     }
 }
@@ -173,33 +162,28 @@ fn blank_layer() -> StyledLayer
     StyledLayer {
         selector: 0,
         style: Style {
-            layer: LayerTag::NoLayer,
+            layer: None,
             z_index: 0.0,
-            color: NamedColor::Unknown,
-            fill_color: NamedColor::Unknown,
+            color: None,
+            fill_color: None,
             is_foreground_fill: false,
-            background_color: NamedColor::Unknown,
-            has_opacity: false,
-            opacity: 0.0,
-            has_fill_opacity: false,
-            fill_opacity: 0.0,
-            has_width: false,
-            width: 0.0,
-            dashes: Dashes::NoDashes,
-            line_cap: LineCap::NoCap,
-            casing_color: NamedColor::Unknown,
-            has_casing_width: false,
-            casing_width: 0.0,
-            casing_dashes: Dashes::NoDashes,
-            casing_line_cap: LineCap::NoCap,
-            icon_image: StyleText::NoText,
-            fill_image: StyleText::NoText,
+            background_color: None,
+            opacity: None,
+            fill_opacity: None,
+            width: None,
+            dashes: None,
+            line_cap: None,
+            casing_color: None,
+            casing_width: None,
+            casing_dashes: None,
+            casing_line_cap: None,
+            icon_image: None,
+            fill_image: None,
             text_style: TextStyle {
-                text: StyleText::NoText,
-                text_color: NamedColor::Unknown,
-                text_position: TextPosition::NoPosition,
-                has_font_size: false,
-                font_size: 0.0,
+                text: None,
+                text_color: None,
+                text_position: None,
+                font_size: None,
             },
         },
     }

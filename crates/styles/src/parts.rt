@@ -7,19 +7,15 @@ ghost use Rattle.walk.specs.Rows.{numbers_at};
 ghost use Rattle.styles.specs.Styles.{default_width};
 
 use entity::EntityRange;
-use reader::TagValue;
 use style::get::get_num;
 use style::width_or_zero;
-use tag_number::LayerTag;
 
 // The tag `layer` of an entity.
-pub fn tag_layer(entity: &[u8], e: EntityRange) -> LayerTag
+pub fn tag_layer(entity: &[u8], e: EntityRange) -> Option<i64>
     ensures { result ≡ layer_told (layer_tag (value_of entity.now e)) }
 {
-    match reader::get_by_key(entity, e.tags, e.count, b"layer") {
-        TagValue::Absent => LayerTag::NoLayer,
-        TagValue::Value(v) => tag_number::layer_tag(base::part(entity, v)),
-    }
+    let v = reader::get_by_key(entity, e.tags, e.count, b"layer")?;
+    tag_number::layer_tag(base::part(entity, v))
 }
 
 // The numbers of the properties of layer i of a table of maps.

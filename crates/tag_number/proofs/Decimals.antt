@@ -5,7 +5,7 @@ use mathlib.Core.Path.{◌≡◌, refl, sym, ◌∙◌, ap, ap₂}
 use mathlib.Core.Logic.{inl}
 use mathlib.Core.Bool.{Bool, true, false}
 use mathlib.Core.List.{[], ◌∷◌, ◌++◌, map}
-use mathlib.Core.Option.{Option, none, some}
+use mathlib.Core.Option.{Option as Maybe, none, some}
 use lib.ListN.{length, get_or, drop}
 use lib.IntN.{ℤ, pos, ◌-ℤ◌}
 use lib.Ieee.{Float, nan, inf}
@@ -14,35 +14,35 @@ use Rattle.base.specs.Choice.{pick, by-test}
 use Rattle.cascade.specs.Number.{is_e, lower_case, negative, unsigned, digits, after_digits, spelt, with_sign, Decimal, decimals, after_decimals, exponent_of, decimal_from, decimal_of, value_of, unsigned_number, tag_number}
 use Rattle.tag_number.specs.Grown.{grown_from, whole_text, written_power, power_of, decimal}
 use Rattle.tag_number.specs.Told.{told}
-use Rattle.tag_number.specs.declared.Power.{Power}
-use Rattle.tag_number.specs.declared.Power.TheVariants.{NoPower, Power10}
 use Rattle.tag_number.specs.declared.TagNumber.{TagNumber}
 use Rattle.tag_number.specs.declared.TagNumber.TheVariants.{Malformed, Reads}
 use Rattle.tag_number.proofs.Saturate.{Near, near_spelt, near_both, near_value, whole_some, whole_not}
+use Rattle.std.specs.Prelude.{Option, Some, None}
+use Rattle.base.proofs.Options.{none_some, some2_first, some2_second}
 
 -- ---- the exponent
 
 module _ (v t : Bytes) (e : t ≡ unsigned v) (w : Bool) (q : w ≡ whole_text t) where
-  pub written_none : w ≡ false → NoPower ≡ written_power v
+  pub written_none : w ≡ false → None ≡ written_power v
   unfolding written_power pick
   written_none h = rw (sym e, sym q, h)
 
-  pub written_some : (m : Bool) (n : ℕ) → w ≡ true → m ≡ negative v → n ≡ grown_from 0 t → Power10 m n ≡ written_power v
+  pub written_some : (m : Bool) (n : ℕ) → w ≡ true → m ≡ negative v → n ≡ grown_from 0 t → Some (m, n) ≡ written_power v
   unfolding written_power pick
-  written_some m n h p u = rw (sym e, sym q, h) (ap₂ Power10 p u)
+  written_some m n h p u = rw (sym e, sym q, h) (ap₂ (λ (m : Bool) (n : ℕ). Some (m, n)) p u)
 
-pub power_none : (v : Bytes) → length v ≡ 0 → Power10 false 0 ≡ power_of v
+pub power_none : (v : Bytes) → length v ≡ 0 → Some (false, 0) ≡ power_of v
 unfolding power_of
 power_none [] h = refl
 power_none (b ∷ v) h = absurd (omega arith)
 
-pub power_not : (v : Bytes) (t : Bool) → (length v ≡ 0 → ⊥) → t ≡ is_e (get_or v 0 0) → t ≡ false → NoPower ≡ power_of v
+pub power_not : (v : Bytes) (t : Bool) → (length v ≡ 0 → ⊥) → t ≡ is_e (get_or v 0 0) → t ≡ false → None ≡ power_of v
 unfolding power_of pick
 power_not [] t h e f = absurd (h refl)
 power_not (b ∷ v) t h e f = let g : is_e b ≡ false = sym e ∙ f in rw g
 
 pub power_written :
-    (v u : Bytes) (t : Bool) (r : Power)
+    (v u : Bytes) (t : Bool) (r : Option (Bool × ℕ))
     → (length v ≡ 0 → ⊥)
     → t ≡ is_e (get_or v 0 0)
     → t ≡ true
@@ -53,20 +53,14 @@ unfolding power_of pick
 power_written [] u t r h e f p q = absurd (h refl)
 power_written (b ∷ v) u t r h e f p q = let g : is_e b ≡ true = sym e ∙ f in rw g (q ∙ ap written_power p)
 
-no_power : {A : Type 0} {t : Bool} {p : ℕ} → NoPower ≡ Power10 t p → A
-no_power e = absurd (let z : ◌≡◌ {A = ℕ} 0 1 = cc in omega arith)
-
-power_no : {A : Type 0} {t : Bool} {p : ℕ} → Power10 t p ≡ NoPower → A
-power_no e = no_power (sym e)
-
-exponent_none : (x : Bytes) → power_of x ≡ NoPower → exponent_of x ≡ none
+exponent_none : (x : Bytes) → power_of x ≡ None → exponent_of x ≡ none
 unfolding power_of exponent_of written_power pick
-exponent_none [] e = power_no e
+exponent_none [] e = none_some (sym e)
 exponent_none (b ∷ s) e =
     by-test (is_e b)
     (λ h.
     by-test (whole_text (unsigned s))
-    (λ w. power_no (rw (h, w) at e))
+    (λ w. none_some (sym (rw (h, w) at e)))
     (λ w. rw (h, whole_not (unsigned s) w)))
     (λ h. rw h)
 
@@ -76,31 +70,31 @@ record Exponent (x : Bytes) (t : Bool) (p : ℕ) : Type 0 where
   is : exponent_of x ≡ some (with_sign t size)
   near : Near p size
 
-exponent_some : (x : Bytes) (t : Bool) (p : ℕ) → power_of x ≡ Power10 t p → Exponent x t p
+exponent_some : (x : Bytes) (t : Bool) (p : ℕ) → power_of x ≡ Some (t, p) → Exponent x t p
 unfolding power_of exponent_of written_power pick
 exponent_some [] t p e =
-    let a : false ≡ t = cc in
-    let b : 0 ≡ p = cc in
+    let a : false ≡ t = some2_first e in
+    let b : 0 ≡ p = some2_second e in
     record { size = 0; is = rw (sym a); near = inl (sym b) }
 exponent_some (b ∷ s) t p e =
     by-test (is_e b)
     (λ h.
     by-test (whole_text (unsigned s))
     (λ w.
-    let f : Power10 (negative s) (grown_from 0 (unsigned s)) ≡ Power10 t p = rw (h, w) at e in
-    let a : negative s ≡ t = cc in
-    let c : grown_from 0 (unsigned s) ≡ p = cc in
+    let f : Some (negative s, grown_from 0 (unsigned s)) ≡ Some (t, p) = rw (h, w) at e in
+    let a : negative s ≡ t = some2_first f in
+    let c : grown_from 0 (unsigned s) ≡ p = some2_second f in
     record {
       size = spelt (unsigned s);
       is = rw (h, whole_some (unsigned s) w, a);
       near = rw (sym c) (near_spelt (unsigned s));
     })
-    (λ w. no_power (rw (h, w) at e)))
-    (λ h. no_power (rw h at e))
+    (λ w. none_some (rw (h, w) at e)))
+    (λ h. none_some (rw h at e))
 
 -- ---- the parts
 
-from_none : (s : Bool) (ds fs : Bytes) (o : Option ℤ) → length ds + length fs ≡ 0 → decimal_from s ds fs o ≡ none
+from_none : (s : Bool) (ds fs : Bytes) (o : Maybe ℤ) → length ds + length fs ≡ 0 → decimal_from s ds fs o ≡ none
 unfolding decimal_from
 from_none s ds fs none h = refl
 from_none s [] [] (some e) h = refl
@@ -119,7 +113,7 @@ from_some s [] (f ∷ fs) e h = refl
 module _
     (s : Bool)
     (t ds r fs x : Bytes)
-    (o : Power)
+    (o : Option (Bool × ℕ))
     (D : ds ≡ digits t)
     (R : r ≡ after_digits t)
     (F : fs ≡ decimals r)
@@ -132,17 +126,17 @@ module _
         let y : after_decimals (after_digits t) ≡ x = ap after_decimals (sym R) ∙ sym X in
         rw (sym D, f, y)
 
-    pub decimal_cut : o ≡ NoPower → Malformed ≡ told (value_of (decimal_of s t))
+    pub decimal_cut : o ≡ None → Malformed ≡ told (value_of (decimal_of s t))
     unfolding decimal_from value_of told
-    decimal_cut h = sym (ap (λ (n : Option Decimal). told (value_of n)) (parts ∙ ap (decimal_from s ds fs) (exponent_none x (sym O ∙ h))))
+    decimal_cut h = sym (ap (λ (n : Maybe Decimal). told (value_of n)) (parts ∙ ap (decimal_from s ds fs) (exponent_none x (sym O ∙ h))))
 
     pub decimal_empty : length ds + length fs ≡ 0 → Malformed ≡ told (value_of (decimal_of s t))
     unfolding value_of told
-    decimal_empty h = sym (ap (λ (n : Option Decimal). told (value_of n)) (parts ∙ from_none s ds fs (exponent_of x) h))
+    decimal_empty h = sym (ap (λ (n : Maybe Decimal). told (value_of n)) (parts ∙ from_none s ds fs (exponent_of x) h))
 
     pub decimal_value :
         (c d p : ℕ) (b : Bool) (z : TagNumber)
-        → o ≡ Power10 b p
+        → o ≡ Some (b, p)
         → (length ds + length fs ≡ 0 → ⊥)
         → c ≡ grown_from 0 ds
         → d ≡ grown_from c fs

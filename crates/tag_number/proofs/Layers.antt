@@ -11,8 +11,7 @@ use mir.Val.{SFits, to_z, of_z}
 use mir.Facts.{to_z_pos, to_z-of_z}
 use Rattle.cascade.specs.Number.{with_sign, ranged}
 use Rattle.tag_number.specs.Told.{layer_told}
-use Rattle.tag_number.specs.declared.LayerTag.{LayerTag}
-use Rattle.tag_number.specs.declared.LayerTag.TheVariants.{NoLayer, Layer}
+use Rattle.std.specs.Prelude.{Option, Some, None}
 
 -- -1 less m
 less_one : (m : ℕ) → negsuc 0 -ℤ pos m ≡ negsuc m
@@ -20,15 +19,15 @@ less_one zero = refl
 less_one (suc m) = ap negsuc (omega arith)
 
 module _ (n : ℕ) where
-  pub below_none : n ≡ 0 → Layer (pos 0) ≡ layer_told (ranged (some (neg_ℤ (pos n))))
+  pub below_none : n ≡ 0 → Some (pos 0) ≡ layer_told (ranged (some (neg_ℤ (pos n))))
   unfolding ranged layer_told
   below_none h = rw h
 
-  pub below_out : 2 ^ 63 < n → NoLayer ≡ layer_told (ranged (some (neg_ℤ (pos n))))
+  pub below_out : 2 ^ 63 < n → None ≡ layer_told (ranged (some (neg_ℤ (pos n))))
   unfolding ranged layer_told
   below_out h = go n h
     where
-      go : (n : ℕ) → 2 ^ 63 < n → NoLayer ≡ layer_told (ranged (some (neg_ℤ (pos n))))
+      go : (n : ℕ) → 2 ^ 63 < n → None ≡ layer_told (ranged (some (neg_ℤ (pos n))))
       go zero h = absurd (omega arith)
       go (suc n) h = rw (le-ltb n (2 ^ 63) (omega arith))
 
@@ -39,26 +38,26 @@ module _ (n : ℕ) where
     pub below_fits : SFits w64 (negsuc 0 -ℤ to_z w64 (n - 1))
     below_fits = rw below_read (record { sfits = omega arith })
 
-    pub below_some : Layer (to_z w64 (of_z w64 (negsuc 0 -ℤ to_z w64 (n - 1)))) ≡ layer_told (ranged (some (neg_ℤ (pos n))))
+    pub below_some : Some (to_z w64 (of_z w64 (negsuc 0 -ℤ to_z w64 (n - 1)))) ≡ layer_told (ranged (some (neg_ℤ (pos n))))
     unfolding ranged layer_told
-    below_some = ap Layer (to_z-of_z below_fits ∙ below_read) ∙ go n h l
+    below_some = ap Some (to_z-of_z below_fits ∙ below_read) ∙ go n h l
       where
-        go : (n : ℕ) → (n ≡ 0 → ⊥) → n ≤ 2 ^ 63 → Layer (negsuc (n - 1)) ≡ layer_told (ranged (some (neg_ℤ (pos n))))
+        go : (n : ℕ) → (n ≡ 0 → ⊥) → n ≤ 2 ^ 63 → Some (negsuc (n - 1)) ≡ layer_told (ranged (some (neg_ℤ (pos n))))
         go zero h l = absurd (h refl)
         go (suc n) h l = let e : suc n - 1 ≡ n = omega arith in rw (lt-ltb n (2 ^ 63) (omega arith), e)
 
   module _ (m : Bool) where
     pub layer_below :
-        (r : LayerTag)
+        (r : Option ℤ)
         → m ≡ true
         → r ≡ layer_told (ranged (some (neg_ℤ (pos n))))
         → r ≡ layer_told (ranged (some (with_sign m n)))
     layer_below r h e = e ∙ ap (λ (t : Bool). layer_told (ranged (some (with_sign t n)))) (sym h)
 
-    pub layer_up : m ≡ false → n < 2 ^ 63 → Layer (to_z w64 n) ≡ layer_told (ranged (some (with_sign m n)))
+    pub layer_up : m ≡ false → n < 2 ^ 63 → Some (to_z w64 n) ≡ layer_told (ranged (some (with_sign m n)))
     unfolding ranged layer_told
-    layer_up h l = ap Layer (to_z_pos w64 l) ∙ (rw (h, lt-ltb n (2 ^ 63) l))
+    layer_up h l = ap Some (to_z_pos w64 l) ∙ (rw (h, lt-ltb n (2 ^ 63) l))
 
-    pub layer_out : m ≡ false → 2 ^ 63 ≤ n → NoLayer ≡ layer_told (ranged (some (with_sign m n)))
+    pub layer_out : m ≡ false → 2 ^ 63 ≤ n → None ≡ layer_told (ranged (some (with_sign m n)))
     unfolding ranged layer_told
     layer_out h l = rw (h, le-ltb n (2 ^ 63) l)

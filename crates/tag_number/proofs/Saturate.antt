@@ -17,9 +17,8 @@ use Rattle.base.specs.Choice.{pick, by-test, clash}
 use Rattle.cascade.specs.Number.{negative, unsigned, spelt, whole_number, with_sign, ranged, as_integer, scaled, out_of_range, value_of}
 use Rattle.tag_number.specs.Grown.{grown, grown_from, whole_text, decimal}
 use Rattle.tag_number.specs.Told.{layer_told}
-use Rattle.tag_number.specs.declared.LayerTag.TheVariants.{NoLayer}
-use Rattle.tag_number.specs.declared.LayerTag.{LayerTag}
 use Rattle.tag_number.proofs.Scaled.{power_up, power_below}
+use Rattle.std.specs.Prelude.{Option, None}
 
 -- the same number, or both at least so large
 abbrev pub Near : ℕ → ℕ → Type 0
@@ -87,12 +86,12 @@ whole_not [] h = refl
 whole_not (b ∷ s) h = rw h
 
 module _ (v t : Bytes) (e : t ≡ unsigned v) (w : Bool) (q : w ≡ whole_text t) where
-  pub layer_none : w ≡ false → NoLayer ≡ layer_told (as_integer v)
+  pub layer_none : w ≡ false → None ≡ layer_told (as_integer v)
   unfolding as_integer ranged layer_told
   layer_none h = rw (sym e, whole_not t (sym q ∙ h))
 
   pub layer_some :
-      (m : Bool) (n : ℕ) (r : LayerTag)
+      (m : Bool) (n : ℕ) (r : Option ℤ)
       → w ≡ true
       → m ≡ negative v
       → n ≡ grown_from 0 t

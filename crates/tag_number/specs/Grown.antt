@@ -1,11 +1,9 @@
 -- The digits of a number as the code adds them up in 64 bits. proofs/Saturate.antt: this changes no answer.
-use Rattle.std.specs.Prelude.{ℕ, ◌+◌, ◌-◌, ◌*◌, Bool, false, ltb, ℤ}
+use Rattle.std.specs.Prelude.{ℕ, ◌+◌, ◌-◌, ◌*◌, Bool, false, ltb, ℤ, Option, Some, None}
 use mathlib.Core.List.{[], ◌∷◌, foldl}
 use Rattle.base.specs.Bytes.{Bytes, same}
 use Rattle.base.specs.Choice.{pick}
 use Rattle.cascade.specs.Number.{is_e, negative, unsigned, after_digits, Decimal}
-use Rattle.tag_number.specs.declared.Power.{Power}
-use Rattle.tag_number.specs.declared.Power.TheVariants.{NoPower, Power10}
 
 -- one digit more, and the largest number where a byte more may not fit
 unfoldable pub grown : ℕ → ℕ → ℕ
@@ -20,12 +18,12 @@ whole_text [] = false
 whole_text (b ∷ s) = same (after_digits (b ∷ s)) []
 
 -- the exponent behind its letter, and with it; none is 0
-unfoldable pub written_power : Bytes → Power
-written_power s = pick (whole_text (unsigned s)) (Power10 (negative s) (grown_from 0 (unsigned s))) NoPower
+unfoldable pub written_power : Bytes → Option (Bool × ℕ)
+written_power s = pick (whole_text (unsigned s)) (Some (negative s, grown_from 0 (unsigned s))) None
 
-unfoldable pub power_of : Bytes → Power
-power_of [] = Power10 false 0
-power_of (b ∷ s) = pick (is_e b) (written_power s) NoPower
+unfoldable pub power_of : Bytes → Option (Bool × ℕ)
+power_of [] = Some (false, 0)
+power_of (b ∷ s) = pick (is_e b) (written_power s) None
 
 abbrev pub decimal : Bool → ℕ → ℤ → Decimal
 decimal s d e = record { minus = s; mantissa = d; exponent = e }

@@ -19,20 +19,6 @@ pub enum TagNumber {
     Reads(f64),
 }
 
-// The tag `layer`.
-#[derive(Clone, Copy)]
-pub enum LayerTag {
-    NoLayer,
-    Layer(i64),
-}
-
-// The exponent that a number is written with: whether it is negative, and its size, which stops growing far out of range.
-#[derive(Clone, Copy)]
-pub enum Power {
-    NoPower,
-    Power10(bool, u64),
-}
-
 // 10 ^ 0 to 10 ^ 22, which are exact.
 const TENS: [f64; 23] = [
     1.0,
@@ -68,40 +54,40 @@ pub fn tag_number(v: &[u8]) -> TagNumber
 }
 
 // The i64 that a tag's value spells, as Rust reads it.
-pub fn layer_tag(v: &[u8]) -> LayerTag
+pub fn layer_tag(v: &[u8]) -> Option<i64>
     ensures { result ≡ layer_told (as_integer v.now) }
 {
     let t = after_sign(v);
     if is_whole_text(t) {
         return layer_of(is_negative(v), spell(t, 0));
     }
-    LayerTag::NoLayer
+    None
 }
 
 // A layer of a sign and a size.
-fn layer_of(minus: bool, n: u64) -> LayerTag
+fn layer_of(minus: bool, n: u64) -> Option<i64>
     ensures { result ≡ layer_told (ranged (some (with_sign minus n))) }
 {
     if minus {
         return layer_below(n);
     }
     if n < 9223372036854775808 {
-        return LayerTag::Layer(n as i64);
+        return Some(n as i64);
     }
-    LayerTag::NoLayer
+    None
 }
 
 // The layer that is so far below 0.
-fn layer_below(n: u64) -> LayerTag
+fn layer_below(n: u64) -> Option<i64>
     ensures { result ≡ layer_told (ranged (some (neg_ℤ (pos n)))) }
 {
     if n == 0 {
-        return LayerTag::Layer(0);
+        return Some(0);
     }
     if n <= 9223372036854775808 {
-        return LayerTag::Layer(-1 - ((n - 1) as i64));
+        return Some(-1 - ((n - 1) as i64));
     }
-    LayerTag::NoLayer
+    None
 }
 
 // What stands behind the sign: a word or a decimal.
@@ -164,8 +150,8 @@ fn decimal_number(t: &[u8], minus: bool) -> TagNumber
     let r = after_digits(t);
     let fs = decimal_digits(r);
     match power_of(after_decimals(r)) {
-        Power::NoPower => TagNumber::Malformed,
-        Power::Power10(down, p) => {
+        None => TagNumber::Malformed,
+        Some((down, p)) => {
             let n = fs.len();
             if ds.len() + n == 0 {
                 return TagNumber::Malformed;
@@ -344,16 +330,16 @@ fn is_whole_text(v: &[u8]) -> bool
 }
 
 // The exponent that a text is.
-fn power_of(v: &[u8]) -> Power
+fn power_of(v: &[u8]) -> Option<(bool, u64)>
     ensures { result ≡ power_of v.now }
 {
     if v.len() == 0 {
-        return Power::Power10(false, 0);
+        return Some((false, 0));
     }
     if is_e(v[0]) {
         return written_power(digits::tail(v));
     }
-    Power::NoPower
+    None
 }
 
 fn is_e(b: u8) -> bool
@@ -363,14 +349,14 @@ fn is_e(b: u8) -> bool
 }
 
 // The exponent behind its letter.
-fn written_power(v: &[u8]) -> Power
+fn written_power(v: &[u8]) -> Option<(bool, u64)>
     ensures { result ≡ written_power v.now }
 {
     let t = after_sign(v);
     if is_whole_text(t) {
-        return Power::Power10(is_negative(v), spell(t, 0));
+        return Some((is_negative(v), spell(t, 0)));
     }
-    Power::NoPower
+    None
 }
 
 // The whole number that digits spell behind a number, as far as it is needed.

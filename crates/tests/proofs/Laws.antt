@@ -13,38 +13,36 @@ use Rattle.grammar.specs.Token.{Name, Token as Token'}
 use Rattle.grammar.specs.Reading.{Test}
 use Rattle.grammar.specs.Input.{test_entry, Answer, refused, keep}
 use Rattle.grammar.specs.Reader.{read_key}
-use Rattle.input.specs.Elim.{on-Key}
-use Rattle.keep.specs.Elim.{with-Room, on-Room}
 use Rattle.keep.specs.Lent.{Lent, lent, name_shown, test_row, keep_test_of, taken, put_entry, lent_store}
 use Rattle.keep.specs.Source.{reading}
 use Rattle.input.specs.Source.{Spot, spot}
 use Rattle.input.specs.Text.{name_in, name_of, token_of, left, key_of, refusal_at, reached_at}
-use Rattle.input.specs.declared.Key.TheVariants.{NoKey, IsKey}
-use Rattle.keep.specs.declared.Room.TheVariants.{NoRoom, Stored}
 use Rattle.input.specs.declared.Place.{Place}
 use Rattle.input.specs.declared.Source.{Source}
 use Rattle.keep.specs.declared.Tally.{Tally}
 use Rattle.input.proofs.Readers.{key_is, key_moves}
 use Rattle.keep.proofs.Laws.{option_none, option_some}
+use Rattle.std.specs.Prelude.{Some, None, Ok, Err}
+use Rattle.base.specs.Option.{on_option as on_option', with_option, on_result, on_result4}
 
 module _ {A : Type 0} (Q : Answer A Spot Lent Refusal → Type 0) (bundle : Bytes) (s : Source) where
   pub no_key :
       (a : Range) (c : Cursor) (τ : Lent) (k : Name → Lent → Token' → Place → Spot → Answer A Spot Lent Refusal) {e : Refusal}
-      → key_of bundle s a c ≡ NoKey e
+      → key_of bundle s a c ≡ Err e
       → Q (refused e τ)
       → Q (read_key (reading bundle) (name_in bundle a) (spot s c) τ k)
-  unfolding on-Key
+  unfolding on_result
   no_key a c τ k h q =
-      subst Q (sym (key_is bundle (lent_store bundle) s a τ k c ∙ ap (λ m. on-Key m (λ e. refused e τ) (λ key t o d. k (name_of bundle key) τ (token_of bundle t) o (spot s d))) h)) q
+      subst Q (sym (key_is bundle (lent_store bundle) s a τ k c ∙ ap (λ m. on_result4 m (λ e. refused e τ) (λ key t o d. k (name_of bundle key) τ (token_of bundle t) o (spot s d))) h)) q
 
   pub a_key :
       (a : Range) (c : Cursor) (τ : Lent) (k : Name → Lent → Token' → Place → Spot → Answer A Spot Lent Refusal) {key : Key'} {t : Token} {o : Place} {d : Cursor}
-      → key_of bundle s a c ≡ IsKey key t o d
+      → key_of bundle s a c ≡ Ok (key, t, o, d)
       → (left bundle s d < left bundle s c → Q (k (name_of bundle key) τ (token_of bundle t) o (spot s d)))
       → Q (read_key (reading bundle) (name_in bundle a) (spot s c) τ k)
-  unfolding on-Key
+  unfolding on_result
   a_key a c τ k {key} {t} {o} {d} h q =
-      subst Q (sym (key_is bundle (lent_store bundle) s a τ k c ∙ ap (λ m. on-Key m (λ e. refused e τ) (λ key t o d. k (name_of bundle key) τ (token_of bundle t) o (spot s d))) h))
+      subst Q (sym (key_is bundle (lent_store bundle) s a τ k c ∙ ap (λ m. on_result4 m (λ e. refused e τ) (λ key t o d. k (name_of bundle key) τ (token_of bundle t) o (spot s d))) h))
       (q (key_moves bundle s a c d key t o h))
 
   -- ---- storing
@@ -52,10 +50,10 @@ module _ {A : Type 0} (Q : Answer A Spot Lent Refusal → Type 0) (bundle : Byte
   pub no_room_test :
       (x : Test) (row : List ℕ) (c : Cursor) (τ : Lent) (k : Lent → Answer A Spot Lent Refusal) {u : List ℕ}
       → test_row x τ.tally.number ≡ row
-      → keep_test_of τ.tally τ.tests row ≡ (NoRoom, u)
+      → keep_test_of τ.tally τ.tests row ≡ (None, u)
       → Q (refused (refusal_at 20 3 (reached_at s c)) τ)
       → Q (keep (reading bundle) (test_entry x) (spot s c) τ k)
-  unfolding put_entry taken with-Room on-Room
+  unfolding put_entry taken with_option on_option'
   no_room_test x row c τ k r e q =
       option_none Q _ _ k
       (ap (λ y. taken y λ n t. lent n τ.rules τ.selectors t τ.properties τ.numbers τ.colors) (ap (keep_test_of τ.tally τ.tests) r ∙ e))
@@ -64,10 +62,10 @@ module _ {A : Type 0} (Q : Answer A Spot Lent Refusal → Type 0) (bundle : Byte
   pub room_test :
       (x : Test) (row : List ℕ) (c : Cursor) (τ : Lent) (k : Lent → Answer A Spot Lent Refusal) {n : Tally} {u : List ℕ}
       → test_row x τ.tally.number ≡ row
-      → keep_test_of τ.tally τ.tests row ≡ (Stored n, u)
+      → keep_test_of τ.tally τ.tests row ≡ (Some n, u)
       → Q (k (lent n τ.rules τ.selectors u τ.properties τ.numbers τ.colors))
       → Q (keep (reading bundle) (test_entry x) (spot s c) τ k)
-  unfolding put_entry taken with-Room on-Room
+  unfolding put_entry taken with_option on_option'
   room_test x row c τ k r e q =
       option_some Q _ _ k
       (ap (λ y. taken y λ n t. lent n τ.rules τ.selectors t τ.properties τ.numbers τ.colors) (ap (keep_test_of τ.tally τ.tests) r ∙ e))

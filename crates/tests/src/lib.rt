@@ -10,14 +10,14 @@ ghost use Rattle.entries.specs.Words.{test_words};
 ghost use Rattle.tests.specs.Answers.{TestRead, TestsRead, TestKept, NumberTestKept, WordRead, DigitsRead, OperandRead, NumericRead};
 
 use base::Range;
-use base::refusal::{NOT_WHOLE, NUMBERS, PARSE, TABLE_FULL, TESTS, UNEXPECTED_TOKEN};
+use base::refusal::{NOT_WHOLE, NUMBERS, PARSE, Refusal, TABLE_FULL, TESTS, UNEXPECTED_TOKEN};
 use cursor::Cursor;
 use input::tokens::{
     expect_right_bracket, read_figure, read_identifier, read_key, read_mandatory_token, refuse,
     refuse_reached,
 };
-use input::{Figure, Key, Mandatory, Past, Place, Source, Word};
-use keep::{Kept, Room, Tally, keep_number, keep_test};
+use input::{Place, Source};
+use keep::{Tally, keep_number, keep_test};
 use table::Name;
 use token_kind::Token;
 
@@ -31,12 +31,12 @@ fn store_test(
     a: usize,
     b: usize,
     tests: &mut [u32],
-) -> Kept
+) -> Result<(Cursor, Tally), Refusal>
     ensures { TestKept source c n (test_words kind key a b) tests.old tests.new result }
 {
     match keep_test(tests, n, kind, key, a, b) {
-        Room::NoRoom => Kept::Refused(refuse_reached(TABLE_FULL, TESTS, source, c)),
-        Room::Stored(m) => Kept::Done(c, m),
+        None => Err(refuse_reached(TABLE_FULL, TESTS, source, c)),
+        Some(m) => Ok((c, m)),
     }
 }
 
@@ -50,12 +50,12 @@ fn store_number_test(
     x: f64,
     tests: &mut [u32],
     numbers: &mut [f64],
-) -> Kept
+) -> Result<(Cursor, Tally), Refusal>
     ensures { NumberTestKept source c n kind key x tests.old numbers.old tests.new numbers.new result }
 {
     match keep_number(numbers, n, x) {
-        Room::NoRoom => Kept::Refused(refuse_reached(TABLE_FULL, NUMBERS, source, c)),
-        Room::Stored(m) => store_test(source, c, m, kind, key, m.number, 0, tests),
+        None => Err(refuse_reached(TABLE_FULL, NUMBERS, source, c)),
+        Some(m) => store_test(source, c, m, kind, key, m.number, 0, tests),
     }
 }
 
@@ -69,13 +69,11 @@ fn read_word_operand(
     c: Cursor,
     n: Tally,
     tests: &mut [u32],
-) -> Kept
+) -> Result<(Cursor, Tally), Refusal>
     ensures { WordRead bundle.now source key kind b c n tests.old tests.new result }
 {
-    match expect_right_bracket(bundle, source, c) {
-        Past::Another(e) => Kept::Refused(e),
-        Past::Beyond(d) => store_test(source, d, n, kind, key, b.from, b.to, tests),
-    }
+    let d = expect_right_bracket(bundle, source, c)?;
+    store_test(source, d, n, kind, key, b.from, b.to, tests)
 }
 
 // Behind the number x of an = or != test.
@@ -89,18 +87,14 @@ fn read_digits_operand(
     n: Tally,
     tests: &mut [u32],
     numbers: &mut [f64],
-) -> Kept
+) -> Result<(Cursor, Tally), Refusal>
     ensures { DigitsRead bundle.now source key kind x c n tests.old numbers.old tests.new numbers.new result }
 {
-    match expect_right_bracket(bundle, source, c) {
-        Past::Another(e) => Kept::Refused(e),
-        Past::Beyond(d) => {
-            if digits::is_whole(x) {
-                return store_number_test(source, d, n, kind, key, x, tests, numbers);
-            }
-            Kept::Refused(refuse_reached(NOT_WHOLE, 0, source, d))
-        }
+    let d = expect_right_bracket(bundle, source, c)?;
+    if digits::is_whole(x) {
+        return store_number_test(source, d, n, kind, key, x, tests, numbers);
     }
+    Err(refuse_reached(NOT_WHOLE, 0, source, d))
 }
 
 // Behind = or !=: by the kinds of a test with a word and with a number.
@@ -114,18 +108,16 @@ fn read_operand(
     n: Tally,
     tests: &mut [u32],
     numbers: &mut [f64],
-) -> Kept
+) -> Result<(Cursor, Tally), Refusal>
     ensures { OperandRead bundle.now source key words figures c n tests.old numbers.old tests.new numbers.new result }
 {
-    match read_mandatory_token(bundle, source, c) {
-        Mandatory::NoToken(e) => Kept::Refused(e),
-        Mandatory::Got(t, o, d) => match t {
-            Token::Identifier(b) => read_word_operand(bundle, source, key, words, b, d, n, tests),
-            Token::Number(x) => read_digits_operand(
-                bundle, source, key, figures, x, d, n, tests, numbers,
-            ),
-            _ => Kept::Refused(refuse(PARSE, UNEXPECTED_TOKEN, o)),
-        },
+    let (t, o, d) = read_mandatory_token(bundle, source, c)?;
+    match t {
+        Token::Identifier(b) => read_word_operand(bundle, source, key, words, b, d, n, tests),
+        Token::Number(x) => read_digits_operand(
+            bundle, source, key, figures, x, d, n, tests, numbers,
+        ),
+        _ => Err(refuse(PARSE, UNEXPECTED_TOKEN, o)),
     }
 }
 
@@ -139,16 +131,12 @@ fn read_number(
     n: Tally,
     tests: &mut [u32],
     numbers: &mut [f64],
-) -> Kept
+) -> Result<(Cursor, Tally), Refusal>
     ensures { NumericRead bundle.now source key kind c n tests.old numbers.old tests.new numbers.new result }
 {
-    match read_figure(bundle, source, c) {
-        Figure::NoFigure(e) => Kept::Refused(e),
-        Figure::IsFigure(x, d) => match expect_right_bracket(bundle, source, d) {
-            Past::Another(e) => Kept::Refused(e),
-            Past::Beyond(f) => store_number_test(source, f, n, kind, key, x, tests, numbers),
-        },
-    }
+    let (x, d) = read_figure(bundle, source, c)?;
+    let f = expect_right_bracket(bundle, source, d)?;
+    store_number_test(source, f, n, kind, key, x, tests, numbers)
 }
 
 // Behind the question mark of a test without a bang.
@@ -159,19 +147,17 @@ fn read_question(
     c: Cursor,
     n: Tally,
     tests: &mut [u32],
-) -> Kept
+) -> Result<(Cursor, Tally), Refusal>
     ensures { TestRead bundle.now source c n tests.old tests.new (question_test (reading bundle.now) (name_of bundle.now key) (spot source c)) result }
 {
-    match read_mandatory_token(bundle, source, c) {
-        Mandatory::NoToken(e) => Kept::Refused(e),
-        Mandatory::Got(t, o, d) => match t {
-            Token::RightBracket => store_test(source, d, n, 3, key, 0, 0, tests),
-            Token::Bang => match expect_right_bracket(bundle, source, d) {
-                Past::Another(e) => Kept::Refused(e),
-                Past::Beyond(f) => store_test(source, f, n, 4, key, 0, 0, tests),
-            },
-            _ => Kept::Refused(refuse(PARSE, UNEXPECTED_TOKEN, o)),
-        },
+    let (t, o, d) = read_mandatory_token(bundle, source, c)?;
+    match t {
+        Token::RightBracket => store_test(source, d, n, 3, key, 0, 0, tests),
+        Token::Bang => {
+            let f = expect_right_bracket(bundle, source, d)?;
+            store_test(source, f, n, 4, key, 0, 0, tests)
+        }
+        _ => Err(refuse(PARSE, UNEXPECTED_TOKEN, o)),
     }
 }
 
@@ -186,7 +172,7 @@ fn plain_test(
     n: Tally,
     tests: &mut [u32],
     numbers: &mut [f64],
-) -> Kept
+) -> Result<(Cursor, Tally), Refusal>
     ensures { TestsRead bundle.now source c n tests.old numbers.old tests.new numbers.new (λ τ. plain_test (reading bundle.now) (name_of bundle.now key) τ (token_of bundle.now t) o (spot source c)) result }
 {
     match t {
@@ -198,7 +184,7 @@ fn plain_test(
         Token::GreaterOrEqual => read_number(bundle, source, key, 12, c, n, tests, numbers),
         Token::RightBracket => store_test(source, c, n, 1, key, 0, 0, tests),
         Token::QuestionMark => read_question(bundle, source, key, c, n, tests),
-        _ => Kept::Refused(refuse(PARSE, UNEXPECTED_TOKEN, o)),
+        _ => Err(refuse(PARSE, UNEXPECTED_TOKEN, o)),
     }
 }
 
@@ -210,15 +196,13 @@ fn read_bang_question(
     c: Cursor,
     n: Tally,
     tests: &mut [u32],
-) -> Kept
+) -> Result<(Cursor, Tally), Refusal>
     ensures { TestRead bundle.now source c n tests.old tests.new (bang_question_test (reading bundle.now) (name_of bundle.now key) (spot source c)) result }
 {
-    match read_mandatory_token(bundle, source, c) {
-        Mandatory::NoToken(e) => Kept::Refused(e),
-        Mandatory::Got(t, o, d) => match t {
-            Token::RightBracket => store_test(source, d, n, 4, key, 0, 0, tests),
-            _ => Kept::Refused(refuse(PARSE, UNEXPECTED_TOKEN, o)),
-        },
+    let (t, o, d) = read_mandatory_token(bundle, source, c)?;
+    match t {
+        Token::RightBracket => store_test(source, d, n, 4, key, 0, 0, tests),
+        _ => Err(refuse(PARSE, UNEXPECTED_TOKEN, o)),
     }
 }
 
@@ -232,13 +216,13 @@ fn bang_test(
     c: Cursor,
     n: Tally,
     tests: &mut [u32],
-) -> Kept
+) -> Result<(Cursor, Tally), Refusal>
     ensures { TestRead bundle.now source c n tests.old tests.new (λ τ. bang_test (reading bundle.now) (name_of bundle.now key) τ (token_of bundle.now t) o (spot source c)) result }
 {
     match t {
         Token::RightBracket => store_test(source, c, n, 2, key, 0, 0, tests),
         Token::QuestionMark => read_bang_question(bundle, source, key, c, n, tests),
-        _ => Kept::Refused(refuse(PARSE, UNEXPECTED_TOKEN, o)),
+        _ => Err(refuse(PARSE, UNEXPECTED_TOKEN, o)),
     }
 }
 
@@ -251,26 +235,26 @@ fn read_plain(
     n: Tally,
     tests: &mut [u32],
     numbers: &mut [f64],
-) -> Kept
+) -> Result<(Cursor, Tally), Refusal>
     ensures { TestsRead bundle.now source c n tests.old numbers.old tests.new numbers.new (λ τ. read_key (reading bundle.now) (name_in bundle.now a) (spot source c) τ (plain_test (reading bundle.now))) result }
 {
-    match read_key(bundle, source, a, c) {
-        Key::NoKey(e) => Kept::Refused(e),
-        Key::IsKey(key, t, o, d) => plain_test(bundle, source, key, t, o, d, n, tests, numbers),
-    }
+    let (key, t, o, d) = read_key(bundle, source, a, c)?;
+    plain_test(bundle, source, key, t, o, d, n, tests, numbers)
 }
 
 // Behind the bang of a test.
-fn read_bang(bundle: &[u8], source: Source, c: Cursor, n: Tally, tests: &mut [u32]) -> Kept
+fn read_bang(
+    bundle: &[u8],
+    source: Source,
+    c: Cursor,
+    n: Tally,
+    tests: &mut [u32],
+) -> Result<(Cursor, Tally), Refusal>
     ensures { TestRead bundle.now source c n tests.old tests.new (read_bang_test (reading bundle.now) (spot source c)) result }
 {
-    match read_identifier(bundle, source, c) {
-        Word::NoWord(e) => Kept::Refused(e),
-        Word::IsWord(a, d) => match read_key(bundle, source, a, d) {
-            Key::NoKey(e) => Kept::Refused(e),
-            Key::IsKey(key, t, o, f) => bang_test(bundle, source, key, t, o, f, n, tests),
-        },
-    }
+    let (a, d) = read_identifier(bundle, source, c)?;
+    let (key, t, o, f) = read_key(bundle, source, a, d)?;
+    bang_test(bundle, source, key, t, o, f, n, tests)
 }
 
 // Behind the opening bracket.
@@ -281,16 +265,14 @@ pub fn read_test(
     n: Tally,
     tests: &mut [u32],
     numbers: &mut [f64],
-) -> Kept
+) -> Result<(Cursor, Tally), Refusal>
     ensures { TestsRead bundle.now source c n tests.old numbers.old tests.new numbers.new (read_test (reading bundle.now) (spot source c)) result }
 {
-    match read_mandatory_token(bundle, source, c) {
-        Mandatory::NoToken(e) => Kept::Refused(e),
-        Mandatory::Got(t, o, d) => match t {
-            Token::Identifier(a) => read_plain(bundle, source, a, d, n, tests, numbers),
-            Token::Text(a) => read_plain(bundle, source, a, d, n, tests, numbers),
-            Token::Bang => read_bang(bundle, source, d, n, tests),
-            _ => Kept::Refused(refuse(PARSE, UNEXPECTED_TOKEN, o)),
-        },
+    let (t, o, d) = read_mandatory_token(bundle, source, c)?;
+    match t {
+        Token::Identifier(a) => read_plain(bundle, source, a, d, n, tests, numbers),
+        Token::Text(a) => read_plain(bundle, source, a, d, n, tests, numbers),
+        Token::Bang => read_bang(bundle, source, d, n, tests),
+        _ => Err(refuse(PARSE, UNEXPECTED_TOKEN, o)),
     }
 }

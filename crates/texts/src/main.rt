@@ -5,8 +5,6 @@ ghost use Rattle.std.specs.Prelude.{OnOk, ◌∷◌, decimal};
 ghost use Rattle.std.specs.Io.KnownBytes.{Appends};
 
 use base::refusal::Refusal;
-use bundle::Checked;
-use group::Pair;
 use std::io;
 use std::io::Write;
 
@@ -18,8 +16,8 @@ fn main(rt: HostRuntime) -> io::Result<()> {
 
 fn print_texts<W: Write>(out: &mut W, s: &[u8]) -> io::Result<()> {
     match bundle::check_bundle(s) {
-        Checked::BadBundle(r) => print_refusal(out, r),
-        Checked::Texts(count) => print_all(out, s, count),
+        Err(r) => print_refusal(out, r),
+        Ok(count) => print_all(out, s, count),
     }
 }
 
@@ -34,8 +32,8 @@ fn print_all<W: Write>(out: &mut W, s: &[u8], count: usize) -> io::Result<()> {
 
 fn print_text<W: Write>(out: &mut W, s: &[u8], k: usize) -> io::Result<()> {
     match bundle::text_at(s, k) {
-        Pair::Broken => Ok(()),
-        Pair::Two(name, text) => {
+        None => Ok(()),
+        Some((name, text)) => {
             let bytes = base::part(s, text);
             out.write_all(base::part(s, name))?;
             print_number(out, bytes.len())?;

@@ -8,7 +8,7 @@ use base::Range;
 use base::refusal::OPEN_COMMENT;
 use cursor::blank::next_significant_char;
 use cursor::{Cursor, Significant};
-use token_kind::{Reading, Token};
+use token_kind::Token;
 
 mod read;
 
@@ -21,20 +21,6 @@ pub enum Step {
     Took(Token, usize, usize, Cursor),
 }
 
-// A string without its closing quote, or its inside.
-#[derive(Clone, Copy)]
-pub enum Quoted {
-    Unclosed(Cursor),
-    Inside(Range, Cursor),
-}
-
-// No sign of two letters, or one and the place behind it.
-#[derive(Clone, Copy)]
-pub enum PairRead {
-    NoPair,
-    Pair(Token, Cursor),
-}
-
 // The next token from a cursor on. Bytes that are no character end the text as its end does: texts are checked to be UTF-8 before.
 // crates/token_laws/specs says what each step consumes and what its lines and characters mean (Claims.antt), and has all tokens of a text
 // (Tokens.antt).
@@ -45,8 +31,8 @@ pub fn next_token(s: &[u8], c: Cursor) -> Step
         Significant::Broken(d) => Step::Wrong(OPEN_COMMENT, d.line, d.character),
         Significant::Ended(d) => Step::End(d),
         Significant::Found(idx, ch, d) => match read::read_token(s, idx, ch, d) {
-            Reading::Failed(reason, line, character) => Step::Wrong(reason, line, character),
-            Reading::Ready(token, e) => Step::Took(token, d.line, d.character, e),
+            Err(e) => Step::Wrong(e.reason, e.line, e.character),
+            Ok((token, e)) => Step::Took(token, d.line, d.character, e),
         },
     }
 }

@@ -2,7 +2,6 @@
 ghost use Rattle.std.specs.Prelude.{◌≡◌};
 ghost use Rattle.token.specs.Read.{read_token, read_pair, read_single, read_long, read_other, starts_number, read_after_minus, read_at_directive, at_directive_end, read_directive, read_import, skip_one, read_identifier, identifier_end, read_string, read_quoted};
 
-use crate::{PairRead, Quoted};
 use base::refusal::{AFTER_AT, AFTER_MINUS, IMPORT_STRING, OPEN_STRING, SYMBOL};
 use base::{Range, part, same_bytes};
 use cursor::{
@@ -10,7 +9,7 @@ use cursor::{
 };
 use space::is_white_space;
 use token_kind::signs::{get_one_char_simple_token, get_two_char_simple_token};
-use token_kind::{Reading, Sign, Token, lexer_error};
+use token_kind::{LexerError, Reading, Token, lexer_error};
 use token_number::read_number;
 use token_zoom::{read_color, read_zoom_range};
 
@@ -19,21 +18,21 @@ pub fn read_token(s: &[u8], idx: usize, ch: u32, c: Cursor) -> Reading
     ensures { result ≡ read_token s.now idx ch c }
 {
     match read_pair(s, ch, c) {
-        PairRead::NoPair => read_single(s, idx, ch, c),
-        PairRead::Pair(token, d) => Reading::Ready(token, d),
+        None => read_single(s, idx, ch, c),
+        Some((token, d)) => Ok((token, d)),
     }
 }
 
 // The sign of two letters that ch begins.
-fn read_pair(s: &[u8], ch: u32, c: Cursor) -> PairRead
+fn read_pair(s: &[u8], ch: u32, c: Cursor) -> Option<(Token, Cursor)>
     ensures { result ≡ read_pair s.now ch c }
 {
     match c.next_char(s) {
-        Next::Done(_) => PairRead::NoPair,
-        Next::Got(next_ch, d) => match get_two_char_simple_token(ch, next_ch) {
-            Sign::NoSign => PairRead::NoPair,
-            Sign::IsSign(token) => PairRead::Pair(token, d),
-        },
+        Next::Done(_) => None,
+        Next::Got(next_ch, d) => {
+            let token = get_two_char_simple_token(ch, next_ch)?;
+            Some((token, d))
+        }
     }
 }
 
@@ -42,8 +41,8 @@ fn read_single(s: &[u8], idx: usize, ch: u32, c: Cursor) -> Reading
     ensures { result ≡ read_single s.now idx ch c }
 {
     match get_one_char_simple_token(ch) {
-        Sign::NoSign => read_long(s, idx, ch, c),
-        Sign::IsSign(token) => Reading::Ready(token, c),
+        None => read_long(s, idx, ch, c),
+        Some(token) => Ok((token, c)),
     }
 }
 
@@ -56,7 +55,7 @@ fn read_long(s: &[u8], idx: usize, ch: u32, c: Cursor) -> Reading
     }
     if ch == 42 {
         let to = c.at;
-        return Reading::Ready(Token::Identifier(Range { from: idx, to }), c);
+        return Ok((Token::Identifier(Range { from: idx, to }), c));
     }
     if can_start_identifier(ch) {
         return read_identifier(s, idx, c);
@@ -73,13 +72,7 @@ fn read_long(s: &[u8], idx: usize, ch: u32, c: Cursor) -> Reading
 fn starts_number(ch: u32) -> bool
     ensures { result ≡ starts_number ch }
 {
-    if in_span(48, 57, ch) {
-        return true;
-    }
-    if ch == 43 {
-        return true;
-    }
-    ch == 46
+    in_span(48, 57, ch) || ch == 43 || ch == 46
 }
 
 fn read_other(s: &[u8], idx: usize, ch: u32, c: Cursor) -> Reading
@@ -94,14 +87,14 @@ fn read_other(s: &[u8], idx: usize, ch: u32, c: Cursor) -> Reading
     if ch == 35 {
         return read_color(s, c);
     }
-    lexer_error(SYMBOL, c)
+    Err(lexer_error(SYMBOL, c))
 }
 
 fn read_after_minus(s: &[u8], idx: usize, c: Cursor) -> Reading
     ensures { result ≡ read_after_minus s.now idx c }
 {
     match c.next_char(s) {
-        Next::Done(_) => lexer_error(AFTER_MINUS, c),
+        Next::Done(_) => Err(lexer_error(AFTER_MINUS, c)),
         Next::Got(next_ch, _) => {
             if in_span(48, 57, next_ch) {
                 return read_number(s, 45, c);
@@ -109,7 +102,7 @@ fn read_after_minus(s: &[u8], idx: usize, c: Cursor) -> Reading
             if can_continue_identifier(next_ch) {
                 return read_identifier(s, idx, c);
             }
-            lexer_error(AFTER_MINUS, c)
+            Err(lexer_error(AFTER_MINUS, c))
         }
     }
 }
@@ -118,13 +111,13 @@ fn read_at_directive(s: &[u8], c: Cursor) -> Reading
     ensures { result ≡ read_at_directive s.now c }
 {
     match c.next_char(s) {
-        Next::Done(d) => lexer_error(AFTER_AT, d),
+        Next::Done(d) => Err(lexer_error(AFTER_AT, d)),
         Next::Got(ch, d) => {
             if can_be_in_at_directive(ch) {
                 let from = c.at;
                 return read_directive(s, from, at_directive_end(s, d));
             }
-            lexer_error(AFTER_AT, d)
+            Err(lexer_error(AFTER_AT, d))
         }
     }
 }
@@ -158,7 +151,7 @@ fn read_directive(s: &[u8], from: usize, c: Cursor) -> Reading
     if same_bytes(part(s, Range { from, to }), b"import") {
         return read_import(s, skip_one(s, 40, c));
     }
-    Reading::Ready(Token::ColorRef(Range { from, to }), c)
+    Ok((Token::ColorRef(Range { from, to }), c))
 }
 
 // Behind a blank or a bracket, if one stands here.
@@ -166,16 +159,8 @@ fn skip_one(s: &[u8], bracket: u32, c: Cursor) -> Cursor
     ensures { result ≡ skip_one s.now bracket c }
 {
     match c.next_char(s) {
-        Next::Done(_) => c,
-        Next::Got(ch, d) => {
-            if is_white_space(ch) {
-                return d;
-            }
-            if ch == bracket {
-                return d;
-            }
-            c
-        }
+        Next::Got(ch, d) if is_white_space(ch) || ch == bracket => d,
+        _ => c,
     }
 }
 
@@ -184,19 +169,11 @@ fn read_import(s: &[u8], c: Cursor) -> Reading
     ensures { result ≡ read_import s.now c }
 {
     match c.next_char(s) {
-        Next::Done(d) => lexer_error(IMPORT_STRING, d),
-        Next::Got(ch, d) => {
-            if ch == 34 {
-                return match read_quoted(s, d) {
-                    Quoted::Unclosed(e) => lexer_error(OPEN_STRING, e),
-                    Quoted::Inside(text, e) => Reading::Ready(
-                        Token::Import(text),
-                        skip_one(s, 41, e),
-                    ),
-                };
-            }
-            lexer_error(IMPORT_STRING, d)
+        Next::Got(34, d) => {
+            let (text, e) = read_quoted(s, d)?;
+            Ok((Token::Import(text), skip_one(s, 41, e)))
         }
+        Next::Got(_, d) | Next::Done(d) => Err(lexer_error(IMPORT_STRING, d)),
     }
 }
 
@@ -205,7 +182,7 @@ fn read_identifier(s: &[u8], from: usize, c: Cursor) -> Reading
 {
     let end = identifier_end(s, c);
     let to = end.at;
-    Reading::Ready(Token::Identifier(Range { from, to }), end)
+    Ok((Token::Identifier(Range { from, to }), end))
 }
 
 fn identifier_end(s: &[u8], c: Cursor) -> Cursor
@@ -231,14 +208,12 @@ fn identifier_end(s: &[u8], c: Cursor) -> Cursor
 fn read_string(s: &[u8], c: Cursor) -> Reading
     ensures { result ≡ read_string s.now c }
 {
-    match read_quoted(s, c) {
-        Quoted::Unclosed(d) => lexer_error(OPEN_STRING, d),
-        Quoted::Inside(text, d) => Reading::Ready(Token::Text(text), d),
-    }
+    let (text, d) = read_quoted(s, c)?;
+    Ok((Token::Text(text), d))
 }
 
 // The inside of the string whose first quote was read.
-fn read_quoted(s: &[u8], c: Cursor) -> Quoted
+fn read_quoted(s: &[u8], c: Cursor) -> Result<(Range, Cursor), LexerError>
     ensures { result ≡ read_quoted s.now c }
 {
     let from = c.at;
@@ -247,11 +222,11 @@ fn read_quoted(s: &[u8], c: Cursor) -> Quoted
         let to = d.at;
         match d.next_char(s) {
             Next::Done(e) => {
-                return Quoted::Unclosed(e);
+                return Err(lexer_error(OPEN_STRING, e));
             }
             Next::Got(ch, e) => {
                 if ch == 34 {
-                    return Quoted::Inside(Range { from, to }, e);
+                    return Ok((Range { from, to }, e));
                 }
                 d = e;
             }

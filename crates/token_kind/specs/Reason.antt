@@ -1,8 +1,8 @@
 -- The reasons of an error, by name, and the error at a place.
-use Rattle.std.specs.Prelude.{ℕ}
+use Rattle.std.specs.Prelude.{ℕ, Result}
 use Rattle.cursor.specs.declared.Cursor.{Cursor}
-use Rattle.token_kind.specs.declared.Reading.{Reading}
-use Rattle.token_kind.specs.declared.Reading.TheVariants.{Failed}
+use Rattle.token_kind.specs.declared.LexerError.{LexerError}
+use Rattle.token_kind.specs.declared.Token.{Token}
 
 abbrev pub after_minus : ℕ
 after_minus = 1
@@ -40,5 +40,9 @@ empty_zoom_range = 11
 abbrev pub open_comment : ℕ
 open_comment = 12
 
-unfoldable pub lexer_error : ℕ → Cursor → Reading
-lexer_error reason c = Failed reason c.line c.character
+unfoldable pub lexer_error : ℕ → Cursor → LexerError
+lexer_error reason c = record { reason = reason; line = c.line; character = c.character }
+
+-- what a reader of one kind of token answers: the token and the place behind it, or an error
+abbrev pub Reading : Type 0
+Reading = Result (Token × Cursor) LexerError

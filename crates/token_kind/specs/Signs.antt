@@ -1,5 +1,5 @@
 -- Signs of two letters and of one: tables, searched in order.
-use Rattle.std.specs.Prelude.{ℕ, suc, Bool, true, false, ◌&&◌, List, [], ◌∷◌, eqb, get_or}
+use Rattle.std.specs.Prelude.{ℕ, Bool, false, List, [], ◌∷◌, eqb, get_or, Option, Some, None, position}
 use Rattle.base.specs.Bytes.{Bytes, ascii}
 use Rattle.base.specs.Choice.{pick}
 use Rattle.token_kind.specs.declared.Token.{Token}
@@ -24,8 +24,6 @@ use Rattle.token_kind.specs.declared.Token.TheVariants.{
   SemiColon,
   Comma,
 }
-use Rattle.token_kind.specs.declared.Sign.{Sign}
-use Rattle.token_kind.specs.declared.Sign.TheVariants.{NoSign, IsSign}
 
 pub record Spelled : Type 0 where
   pub letters : Bytes
@@ -65,37 +63,32 @@ one_letter =
 unfoldable pub is_pair : ℕ → ℕ → Bytes → Bool
 is_pair a b p = pick (eqb (get_or p 0 0) a) (eqb (get_or p 1 0) b) false
 
-unfoldable pub first_pair : List Spelled → ℕ → ℕ → Sign
-first_pair [] a b = NoSign
-first_pair (e ∷ es) a b = pick (is_pair a b e.letters) (IsSign e.token) (first_pair es a b)
+unfoldable pub first_pair : List Spelled → ℕ → ℕ → Option Token
+first_pair [] a b = None
+first_pair (e ∷ es) a b = pick (is_pair a b e.letters) (Some e.token) (first_pair es a b)
 
-unfoldable pub get_two_char_simple_token : ℕ → ℕ → Sign
+unfoldable pub get_two_char_simple_token : ℕ → ℕ → Option Token
 get_two_char_simple_token a b = first_pair two_letter a b
 
-unfoldable pub first_letter : List Spelled → ℕ → Sign
-first_letter [] k = NoSign
-first_letter (e ∷ es) k = pick (eqb k (get_or e.letters 0 0)) (IsSign e.token) (first_letter es k)
+unfoldable pub first_letter : List Spelled → ℕ → Option Token
+first_letter [] k = None
+first_letter (e ∷ es) k = pick (eqb k (get_or e.letters 0 0)) (Some e.token) (first_letter es k)
 
-unfoldable pub get_one_char_simple_token : ℕ → Sign
+unfoldable pub get_one_char_simple_token : ℕ → Option Token
 get_one_char_simple_token k = first_letter one_letter k
 
 -- As the code goes about it: the place of the pair in a table of pairs alone, then the sign at that place.
 abbrev pub pairs : List Bytes
 pairs = ascii "!=" ∷ ascii "<=" ∷ ascii ">=" ∷ ascii "=~" ∷ ascii "::" ∷ []
 
--- the place of the first pair that is a b, and the table's length where there is none
-unfoldable pub place_in : List Bytes → ℕ → ℕ → ℕ
-place_in [] a b = 0
-place_in (p ∷ ps) a b = pick (is_pair a b p) 0 (suc (place_in ps a b))
+unfoldable pub place_of_pair : ℕ → ℕ → Option ℕ
+place_of_pair a b = position (is_pair a b) pairs
 
-unfoldable pub place_of_pair : ℕ → ℕ → ℕ
-place_of_pair a b = place_in pairs a b
-
-unfoldable pub sign_of_pair : ℕ → Sign
+unfoldable pub sign_of_pair : ℕ → Option Token
 sign_of_pair i =
-    pick (eqb i 0) (IsSign NotEqual)
-    (pick (eqb i 1) (IsSign LessOrEqual)
-    (pick (eqb i 2) (IsSign GreaterOrEqual)
-    (pick (eqb i 3) (IsSign RegexMatch)
-    (pick (eqb i 4) (IsSign DoubleColon)
-    NoSign))))
+    pick (eqb i 0) (Some NotEqual)
+    (pick (eqb i 1) (Some LessOrEqual)
+    (pick (eqb i 2) (Some GreaterOrEqual)
+    (pick (eqb i 3) (Some RegexMatch)
+    (pick (eqb i 4) (Some DoubleColon)
+    None))))

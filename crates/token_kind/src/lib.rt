@@ -10,13 +10,6 @@ use cursor::Cursor;
 
 pub mod signs;
 
-// An end of a zoom range.
-#[derive(Clone, Copy)]
-pub enum ZoomLevel {
-    NoLevel,
-    Level(u8),
-}
-
 // A token. Ranges are places of the text; Text is the Rust's String.
 #[derive(Clone, Copy)]
 pub enum Token {
@@ -24,7 +17,7 @@ pub enum Token {
     Identifier(Range),
     Text(Range),
     Number(f64),
-    ZoomRange(ZoomLevel, ZoomLevel),
+    ZoomRange(Option<u8>, Option<u8>),
     ColorRef(Range),
     Color(Color),
     LeftParen,
@@ -48,23 +41,24 @@ pub enum Token {
     Comma,
 }
 
-// What a reader of one kind of token answers: the Rust's Result<Token>, and the place behind the token.
+// An error of the tokenizer: its reason, and the line and character that it stands at.
 #[derive(Clone, Copy)]
-pub enum Reading {
-    Failed(usize, usize, usize),
-    Ready(Token, Cursor),
+pub struct LexerError {
+    pub reason: usize,
+    pub line: usize,
+    pub character: usize,
 }
 
-// A sign by its characters.
-#[derive(Clone, Copy)]
-pub enum Sign {
-    NoSign,
-    IsSign(Token),
-}
+// What a reader of one kind of token answers: the Rust's Result<Token>, with the place behind the token.
+pub type Reading = Result<(Token, Cursor), LexerError>;
 
 // The error of a reason, at the line and character of a cursor.
-pub fn lexer_error(reason: usize, c: Cursor) -> Reading
+pub fn lexer_error(reason: usize, c: Cursor) -> LexerError
     ensures { result ≡ lexer_error reason c }
 {
-    Reading::Failed(reason, c.line, c.character)
+    LexerError {
+        reason,
+        line: c.line,
+        character: c.character,
+    }
 }

@@ -1,7 +1,7 @@
 -- The colour that the code makes of its digits is that of the digits: #abcdef is ab, cd, ef, and #abc is aa, bb, cc.
 use Prim.Native.Nat.{ℕ, ◌+◌, ◌*◌, ◌/◌, ◌%◌, ◌<◌}
 use native.Mathlib.Omega.{arith}
-use mathlib.Core.Path.{◌≡◌, refl, sym, ◌∙◌, ap}
+use mathlib.Core.Path.{◌≡◌, refl, ◌∙◌}
 use mathlib.Core.List.{List, [], ◌∷◌}
 use Rattle.color.specs.Named.{rgb}
 use Rattle.token_zoom.specs.Zoom.{hex_added, six_digits, three_digits}

@@ -1,11 +1,11 @@
 -- Each token is read character by character: what a step consumes, and what its lines and characters mean.
-use Prim.Native.Nat.{ℕ, zero, suc, ◌+◌, ◌-◌, ◌<◌, ◌≤◌}
+use Prim.Native.Nat.{ℕ, suc, ◌-◌, ◌<◌, ◌≤◌}
 use native.Mathlib.Omega.{arith}
-use mathlib.Core.Path.{◌≡◌, refl, sym, ◌∙◌, ap, subst}
+use mathlib.Core.Path.{◌≡◌, refl, sym, subst}
 use mathlib.Core.Bool.{Bool, true, false}
-use mathlib.Core.List.{List, [], ◌∷◌}
 use lib.Dec.{eqb}
 use lib.ListN.{length}
+use Rattle.base.proofs.Options.{split_option, split_option2, split_result2}
 use Rattle.base.specs.Bytes.{Bytes, ascii, same, within}
 use Rattle.base.specs.Choice.{pick, pick_split}
 use Rattle.base.specs.Turns.{Turn, more, done, turns}
@@ -15,23 +15,17 @@ use Rattle.space.specs.Space.{is_white_space}
 use Rattle.cursor.specs.Blank.{next_significant_char}
 use Rattle.cursor.specs.Elim.{on-Next}
 use Rattle.cursor.specs.Class.{in_span, can_be_in_at_directive, can_start_identifier, can_continue_identifier, to_digit}
-use Rattle.cursor.specs.Cursor.{start, most, bump, next_char}
-use Rattle.cursor.specs.Number.{value, dotted, digit_added, takes_dot, digits, digits_turn, read_digits}
-use Rattle.cursor.specs.Position.{Position}
+use Rattle.cursor.specs.Cursor.{start, next_char}
+use Rattle.cursor.specs.Number.{takes_dot, digits, digits_turn, read_digits}
 use Rattle.cursor.specs.Reach.{Reach, here, on, over, Within, AtEnd, Begun}
 use Rattle.cursor.specs.declared.Cursor.{Cursor}
-use Rattle.cursor.specs.declared.Digit.{Digit}
-use Rattle.cursor.specs.declared.Next.{Next}
-use Rattle.cursor.specs.declared.Next.TheVariants.{Done, Got}
-use Rattle.cursor.specs.declared.Significant.{Significant}
-use Rattle.cursor.specs.declared.Significant.TheVariants.{Broken, Ended, Found}
+use Rattle.cursor.specs.declared.Significant.TheVariants.{Found}
 use Rattle.cursor.specs.declared.number.Digits.{Digits}
 use Rattle.cursor.specs.declared.number.Sum.{Sum}
-use Rattle.cursor.proofs.Onward.{read, read_within, next_on}
+use Rattle.cursor.proofs.Onward.{read, read_within}
 use Rattle.cursor.proofs.Positions.{positioned}
 use Rattle.cursor.proofs.Reaching.{
   split-Next,
-  split-Digit,
   split-Significant,
   reach_on,
   reach_within,
@@ -46,139 +40,20 @@ use Rattle.cursor.proofs.Reaching.{
   SignificantReach,
   significant_reach,
 }
-use Rattle.token_laws.specs.Claims.{Between, Inside, Consumed, StepsConsume, Stepped, first, then, Place, Told, PositionsTell}
-use Rattle.token_kind.specs.Elim.{on-Sign, on-Reading}
-use Rattle.token_zoom.specs.Elim.{on-DigitRead}
-use Rattle.token.specs.Elim.{on-Quoted, on-PairRead}
+use Rattle.token_laws.specs.Claims.{Between, Inside, StepsConsume, Stepped, first, then, Told, PositionsTell}
 use Rattle.token_number.specs.Number.{is_bare_dot, finish_number, first_digit, read_unsigned, read_signed, read_number}
-use Rattle.token.specs.Read.{
-  range,
-  identifier_turn,
-  identifier_end,
-  read_identifier,
-  quoted_turn,
-  read_quoted,
-  read_string,
-  skip_one,
-  read_import,
-  read_directive,
-  directive_turn,
-  at_directive_end,
-  read_at_directive,
-  read_after_minus,
-  read_other,
-  starts_number,
-  read_long,
-  read_single,
-  read_pair,
-  read_token,
-}
-use Rattle.token_kind.specs.Reason.{
-  after_minus,
-  symbol,
-  after_at,
-  import_string,
-  open_string,
-  nothing_after_sign,
-  no_number_after_sign,
-  no_fraction,
-  bad_color,
-  z_wanted,
-  empty_zoom_range,
-  open_comment,
-  lexer_error,
-}
-use Rattle.token_kind.specs.Signs.{
-  Spelled,
-  two_letter,
-  one_letter,
-  is_pair,
-  first_pair,
-  get_two_char_simple_token,
-  first_letter,
-  get_one_char_simple_token,
-}
+use Rattle.token.specs.Read.{range, identifier_end, read_identifier, quoted_turn, read_quoted, read_string, skip_one, read_import, read_directive, at_directive_end, read_at_directive, read_after_minus, read_other, starts_number, read_long, read_single, read_pair, read_token}
+use Rattle.token_kind.specs.Reason.{Reading, after_minus, symbol, after_at, import_string, open_string, nothing_after_sign, no_number_after_sign, no_fraction, bad_color, z_wanted, empty_zoom_range, lexer_error}
+use Rattle.token_kind.specs.Signs.{first_pair, get_two_char_simple_token, first_letter, get_one_char_simple_token}
 use Rattle.token.specs.Step.{step_of}
-use Rattle.token_zoom.specs.Zoom.{
-  read_digit,
-  hex,
-  hex_added,
-  hex_turn,
-  read_hex_digits,
-  six_digits,
-  three_digits,
-  read_color,
-  level_read,
-  read_zoom_level,
-  hyphen,
-  read_hyphen,
-  is_no_level,
-  ranged,
-  zoom_range,
-  read_levels,
-  read_zoom_range,
-}
-use Rattle.token_zoom.specs.declared.DigitRead.{DigitRead}
-use Rattle.token_zoom.specs.declared.DigitRead.TheVariants.{NoneRead, OneRead}
-use Rattle.token.specs.declared.PairRead.{PairRead}
-use Rattle.token.specs.declared.PairRead.TheVariants.{NoPair, Pair}
-use Rattle.token.specs.declared.Quoted.{Quoted}
-use Rattle.token.specs.declared.Quoted.TheVariants.{Unclosed, Inside as Quotes}
-use Rattle.token_kind.specs.declared.Reading.{Reading}
-use Rattle.token_kind.specs.declared.Reading.TheVariants.{Failed, Ready}
-use Rattle.token_kind.specs.declared.Sign.{Sign}
-use Rattle.token_kind.specs.declared.Sign.TheVariants.{NoSign, IsSign}
+use Rattle.token_zoom.specs.Zoom.{read_digit, hex, hex_turn, read_hex_digits, read_color, read_zoom_level, read_hyphen, ranged, zoom_range, read_levels, read_zoom_range}
 use Rattle.token.specs.declared.Step.{Step}
 use Rattle.token.specs.declared.Step.TheVariants.{Wrong, End, Took}
+use Rattle.token_kind.specs.declared.LexerError.{LexerError}
 use Rattle.token_kind.specs.declared.Token.{Token}
-use Rattle.token_kind.specs.declared.ZoomLevel.{ZoomLevel}
 use Rattle.token_zoom.specs.declared.Hex.{Hex}
-use Rattle.token_zoom.specs.declared.Hyphen.{Hyphen}
-use Rattle.token_zoom.specs.declared.LevelRead.{LevelRead}
-use Rattle.token_zoom.proofs.Digits.{DigitAt, digit_at}
-
--- what holds in each case holds of the answer
-module _ {B : Type 0} (P : B → Type 0) where
-  split-DigitRead :
-      (x : DigitRead) (a : B) (g : ℕ → Cursor → B)
-      → (x ≡ NoneRead → P a)
-      → ((v : ℕ) (d : Cursor) → x ≡ OneRead v d → P (g v d))
-      → P (on-DigitRead x a g)
-  unfolding on-DigitRead
-  split-DigitRead NoneRead a g p q = p refl
-  split-DigitRead (OneRead v d) a g p q = q v d refl
-
-  pub split-Quoted :
-      (x : Quoted) (f : Cursor → B) (g : Range → Cursor → B)
-      → ((d : Cursor) → x ≡ Unclosed d → P (f d))
-      → ((r : Range) (d : Cursor) → x ≡ Quotes r d → P (g r d))
-      → P (on-Quoted x f g)
-  unfolding on-Quoted
-  split-Quoted (Unclosed d) f g p q = p d refl
-  split-Quoted (Quotes r d) f g p q = q r d refl
-
-  pub split-Sign : (x : Sign) (a : B) (g : Token → B) → (x ≡ NoSign → P a) → ((t : Token) → x ≡ IsSign t → P (g t)) → P (on-Sign x a g)
-  unfolding on-Sign
-  split-Sign NoSign a g p q = p refl
-  split-Sign (IsSign t) a g p q = q t refl
-
-  pub split-PairRead :
-      (x : PairRead) (a : B) (g : Token → Cursor → B)
-      → (x ≡ NoPair → P a)
-      → ((t : Token) (d : Cursor) → x ≡ Pair t d → P (g t d))
-      → P (on-PairRead x a g)
-  unfolding on-PairRead
-  split-PairRead NoPair a g p q = p refl
-  split-PairRead (Pair t d) a g p q = q t d refl
-
-  pub split-Reading :
-      (x : Reading) (f : ℕ → ℕ → ℕ → B) (g : Token → Cursor → B)
-      → ((r l k : ℕ) → x ≡ Failed r l k → P (f r l k))
-      → ((t : Token) (d : Cursor) → x ≡ Ready t d → P (g t d))
-      → P (on-Reading x f g)
-  unfolding on-Reading
-  split-Reading (Failed r l k) f g p q = p r l k refl
-  split-Reading (Ready t d) f g p q = q t d refl
+use Rattle.token_zoom.proofs.Digits.{digit_at}
+use Rattle.std.specs.Prelude.{Option, Some, None, is_none, ◌&&◌, Result, Ok, Err}
 
 -- an error's place, where at most the end was read once
 record Failing (s : Bytes) (c : Cursor) (line character : ℕ) : Type 0 where
@@ -193,28 +68,28 @@ record Readied (s : Bytes) (c : Cursor) (from : ℕ) (t : Token) (d : Cursor) : 
 
 -- what a reader answers, of a token that begins at a place
 abbrev Reads : Bytes → Cursor → ℕ → Reading → Type 0
-Reads s c from (Failed r l k) = Failing s c l k
-Reads s c from (Ready t d) = Readied s c from t d
+Reads s c from (Err e) = Failing s c e.line e.character
+Reads s c from (Ok (t, d)) = Readied s c from t d
 
 module _ {s : Bytes} {c : Cursor} (from : ℕ) where
-  failed_0 : {d : Cursor} (r : ℕ) → Reach s c 0 d → Reads s c from (lexer_error r d)
+  failed_0 : {d : Cursor} (r : ℕ) → Reach s c 0 d → Reads s c from (Err (lexer_error r d))
   unfolding lexer_error
   failed_0 {d} r h = record { place = d; reach = within_0 h; on_line = refl; on_character = refl }
 
-  failed_1 : {d : Cursor} (r : ℕ) → Reach s c 1 d → Reads s c from (lexer_error r d)
+  failed_1 : {d : Cursor} (r : ℕ) → Reach s c 1 d → Reads s c from (Err (lexer_error r d))
   unfolding lexer_error
   failed_1 {d} r h = record { place = d; reach = within_1 h; on_line = refl; on_character = refl }
 
 -- a reader that goes on from a place that was reached
 reads_more : {s : Bytes} {c d : Cursor} (from : ℕ) → Reach s c 0 d → (x : Reading) → Reads s d from x → Reads s c from x
-reads_more from h (Failed r l k) w =
+reads_more from h (Err e) w =
     record { place = w.place; reach = within_more h w.reach; on_line = w.on_line; on_character = w.on_character }
-reads_more from h (Ready t d) w = record { reach = reach_more h w.reach; inside = w.inside }
+reads_more from h (Ok (t, d)) w = record { reach = reach_more h w.reach; inside = w.inside }
 
 -- signs have no range
-abbrev Bare : Sign → Type 0
-Bare NoSign = Unit {0}
-Bare (IsSign t) = (from to : ℕ) → Inside from to t
+abbrev Bare : Option Token → Type 0
+Bare None = Unit {0}
+Bare (Some t) = (from to : ℕ) → Inside from to t
 
 two_bare : (a b : ℕ) → Bare (get_two_char_simple_token a b)
 unfolding get_two_char_simple_token first_pair
@@ -276,9 +151,9 @@ record Between-quotes (s : Bytes) (c : Cursor) (r : Range) (d : Cursor) : Type 0
   pub reach : Reach s c 0 d
   pub inside : Between c.at d.at r
 
-abbrev Quotation : Bytes → Cursor → Quoted → Type 0
-Quotation s c (Unclosed d) = Reach s c 1 d
-Quotation s c (Quotes r d) = Between-quotes s c r d
+abbrev Quotation : Bytes → Cursor → Result (Range × Cursor) LexerError → Type 0
+Quotation s c (Err e) = Failing s c e.line e.character
+Quotation s c (Ok (r, d)) = Between-quotes s c r d
 
 quoted_turn_lem :
     (s : Bytes) (c d : Cursor)
@@ -286,7 +161,7 @@ quoted_turn_lem :
     → Falls (Reach s c 0) (Quotation s c) (λ x. length s - x.at) (length s - d.at) (quoted_turn s c.at d)
 quoted_turn_lem s c d r =
     let P = Falls (Reach s c 0) (Quotation s c) (λ x. length s - x.at) (length s - d.at) in
-    split-Next P (next_char s d) _ _ (λ e q. over r q) λ k e q.
+    split-Next P (next_char s d) _ _ (λ e q. failed_1 c.at open_string (over r q)) λ k e q.
     let l = reach_on r in
     let h = read_within s d e k (read s d e k q) in
     pick_split P (eqb k 34) _ _
@@ -296,7 +171,7 @@ quoted_turn_lem s c d r =
 quoted_reach : (s : Bytes) (c : Cursor) → Quotation s c (read_quoted s c)
 unfolding read_quoted
 quoted_reach s c =
-    turns_fall (Reach s c 0) (Quotation s c) (λ x. length s - x.at) (quoted_turn s c.at) (Unclosed c)
+    turns_fall (Reach s c 0) (Quotation s c) (λ x. length s - x.at) (quoted_turn s c.at) (Err (lexer_error open_string c))
     (quoted_turn_lem s c) (suc (length s)) c (omega arith) here
 
 wider : (from from' to to' : ℕ) (r : Range) → from' ≤ from → to ≤ to' → Between from to r → Between from' to' r
@@ -308,8 +183,8 @@ wider from from' to to' r p q b =
 reads_string : (s : Bytes) (from : ℕ) (c : Cursor) → from ≤ c.at → Reads s c from (read_string s c)
 unfolding read_string
 reads_string s from c h =
-    split-Quoted (Reads s c from) (read_quoted s c) _ _
-    (λ d q. failed_1 from open_string (subst (Quotation s c) q (quoted_reach s c)))
+    split_result2 (Reads s c from) (read_quoted s c) _ _
+    (λ e q. subst (Quotation s c) q (quoted_reach s c))
     (λ r d q.
     let w = subst (Quotation s c) q (quoted_reach s c) in
     record { reach = w.reach; inside = wider c.at from d.at d.at r h (omega arith) w.inside })
@@ -328,8 +203,8 @@ reads_import s from c h =
     split-Next (Reads s c from) (next_char s c) _ _ (λ d q. failed_1 from import_string (reach_end q)) λ k d q.
     pick_split (Reads s c from) (eqb k 34) _ _
     (λ t.
-    split-Quoted (Reads s c from) (read_quoted s d) _ _
-    (λ e m. failed_1 from open_string (reach_more (reach_one q) (subst (Quotation s d) m (quoted_reach s d))))
+    split_result2 (Reads s c from) (read_quoted s d) _ _
+    (λ e m. reads_more from (reach_one q) (Err e) (subst (Quotation s d) m (quoted_reach s d)))
     (λ r e m.
     let w = subst (Quotation s d) m (quoted_reach s d) in
     let x = skip_reach s 41 e in
@@ -374,7 +249,7 @@ digits_turn_lem :
 digits_turn_lem s c x r =
     let P : Turn Digits Digits → Type 0 = Kept (λ y. Reach s c 0 y.end) (λ y. Reach s c 0 y.end) in
     split-Next P (next_char s x.end) _ _ (λ d q. r) λ k d q.
-    split-Digit P (to_digit k 10) _ _
+    split_option P (to_digit k 10) _ _
     (λ m. pick_split P (takes_dot x.sum k) _ _ (λ t. on r q) (λ t. r))
     (λ v m. on r q)
 
@@ -397,7 +272,7 @@ reads_finished s from minus c x r =
 reads_unsigned : (s : Bytes) (from : ℕ) (minus : Bool) (ch : ℕ) (c : Cursor) → Reads s c from (read_unsigned s minus ch c)
 unfolding read_unsigned
 reads_unsigned s from minus ch c =
-    split-Digit (Reads s c from) (to_digit ch 10) _ _
+    split_option (Reads s c from) (to_digit ch 10) _ _
     (λ m.
     pick_split (Reads s c from) (eqb ch 46) _ _
     (λ t. reads_finished s from minus c (read_digits s c (first_digit 0 true)) (digits_reach s c (first_digit 0 true)))
@@ -432,8 +307,8 @@ hex_turn_lem :
     → Kept (λ y. Reach s c 0 y.end) (λ y. Reach s c 0 y.end) (hex_turn s x)
 hex_turn_lem s c x r =
     let P : Turn Hex Hex → Type 0 = Kept (λ y. Reach s c 0 y.end) (λ y. Reach s c 0 y.end) in
-    split-DigitRead P (read_digit s 16 x.end) _ _ (λ q. r) λ v d q.
-    on r (digit_at s 16 x.end d v (OneRead v d) (sym q) refl).char
+    split_option2 P (read_digit s 16 x.end) _ _ (λ q. r) λ v d q.
+    on r (digit_at s 16 x.end d v (Some (v, d)) (sym q) refl).char
 
 hex_reach : (s : Bytes) (c : Cursor) → Reach s c 0 (read_hex_digits s c).end
 unfolding read_hex_digits
@@ -451,24 +326,24 @@ reads_color s from c =
     (λ u. failed_0 from bad_color (hex_reach s c))
 
 -- zoom ranges
-level_reach : (s : Bytes) (c : Cursor) → Reach s c 0 (read_zoom_level s c).end
+level_reach : (s : Bytes) (c : Cursor) → Reach s c 0 (read_zoom_level s c).1
 unfolding read_zoom_level
 level_reach s c =
-    let P : LevelRead → Type 0 = λ y. Reach s c 0 y.end in
-    split-DigitRead P (read_digit s 10 c) _ _ (λ q. here) λ a d q.
-    let r : Reach s c 0 d = on here (digit_at s 10 c d a (OneRead a d) (sym q) refl).char in
-    split-DigitRead P (read_digit s 10 d) _ _ (λ m. r) λ b e m.
-    on r (digit_at s 10 d e b (OneRead b e) (sym m) refl).char
+    let P : Option ℕ × Cursor → Type 0 = λ y. Reach s c 0 y.1 in
+    split_option2 P (read_digit s 10 c) _ _ (λ q. here) λ a d q.
+    let r : Reach s c 0 d = on here (digit_at s 10 c d a (Some (a, d)) (sym q) refl).char in
+    split_option2 P (read_digit s 10 d) _ _ (λ m. r) λ b e m.
+    on r (digit_at s 10 d e b (Some (b, e)) (sym m) refl).char
 
-hyphen_reach : (s : Bytes) (c : Cursor) → Reach s c 0 (read_hyphen s c).end
+hyphen_reach : (s : Bytes) (c : Cursor) → Reach s c 0 (read_hyphen s c).1
 unfolding read_hyphen
 hyphen_reach s c =
-    let P : Hyphen → Type 0 = λ y. Reach s c 0 y.end in
+    let P : Bool × Cursor → Type 0 = λ y. Reach s c 0 y.1 in
     split-Next P (next_char s c) _ _ (λ d q. here) λ k d q.
     pick_split P (eqb k 45) _ _ (λ t. on here q) (λ t. here)
 
 reads_ranged :
-    (s : Bytes) (from : ℕ) (c : Cursor) (min : ZoomLevel) (had : Bool) (max : ZoomLevel) (d : Cursor)
+    (s : Bytes) (from : ℕ) (c : Cursor) (min : Option ℕ) (had : Bool) (max : Option ℕ) (d : Cursor)
     → Reach s c 0 d
     → Reads s c from (ranged min had max d)
 unfolding ranged
@@ -479,15 +354,12 @@ reads_levels : (s : Bytes) (from : ℕ) (c : Cursor) → Reads s c from (read_le
 unfolding read_levels zoom_range
 reads_levels s from c =
     let min = read_zoom_level s c in
-    let h = read_hyphen s min.end in
-    let max = read_zoom_level s h.end in
-    let r = reach_more (level_reach s c) (reach_more (hyphen_reach s min.end) (level_reach s h.end)) in
-    pick_split (Reads s c from) (is_no_level min.level) _ _
-    (λ t.
-    pick_split (Reads s c from) (is_no_level max.level) _ _
-    (λ u. failed_0 from empty_zoom_range r)
-    (λ u. reads_ranged s from c min.level h.had max.level max.end r))
-    (λ t. reads_ranged s from c min.level h.had max.level max.end r)
+    let h = read_hyphen s min.1 in
+    let max = read_zoom_level s h.1 in
+    let r = reach_more (level_reach s c) (reach_more (hyphen_reach s min.1) (level_reach s h.1)) in
+    pick_split (Reads s c from) (is_none min.0 && is_none max.0) _ _
+    (λ t. failed_0 from empty_zoom_range r)
+    (λ t. reads_ranged s from c min.0 h.0 max.0 max.1 r)
 
 reads_zoom : (s : Bytes) (from : ℕ) (c : Cursor) → Reads s c from (read_zoom_range s c)
 unfolding read_zoom_range
@@ -519,24 +391,24 @@ reads_long s from ch c h =
 reads_single : (s : Bytes) (from ch : ℕ) (c : Cursor) → from ≤ c.at → Reads s c from (read_single s from ch c)
 unfolding read_single
 reads_single s from ch c h =
-    split-Sign (Reads s c from) (get_one_char_simple_token ch) _ _ (λ q. reads_long s from ch c h) λ t q.
+    split_option (Reads s c from) (get_one_char_simple_token ch) _ _ (λ q. reads_long s from ch c h) λ t q.
     record { reach = here; inside = subst Bare q (one_bare ch) from c.at }
 
-abbrev Paired : Bytes → Cursor → ℕ → PairRead → Type 0
-Paired s c from NoPair = Unit {0}
-Paired s c from (Pair t d) = Readied s c from t d
+abbrev Paired : Bytes → Cursor → ℕ → Option (Token × Cursor) → Type 0
+Paired s c from None = Unit {0}
+Paired s c from (Some (t, d)) = Readied s c from t d
 
 reads_pair : (s : Bytes) (from ch : ℕ) (c : Cursor) → Paired s c from (read_pair s ch c)
 unfolding read_pair
 reads_pair s from ch c =
     split-Next (Paired s c from) (next_char s c) _ _ (λ d q. tt) λ k d q.
-    split-Sign (Paired s c from) (get_two_char_simple_token ch k) _ _ (λ m. tt) λ t m.
+    split_option (Paired s c from) (get_two_char_simple_token ch k) _ _ (λ m. tt) λ t m.
     record { reach = reach_one q; inside = subst Bare m (two_bare ch k) from d.at }
 
 reads_token : (s : Bytes) (from ch : ℕ) (c : Cursor) → from ≤ c.at → Reads s c from (read_token s from ch c)
 unfolding read_token
 reads_token s from ch c h =
-    split-PairRead (Reads s c from) (read_pair s ch c) _ _
+    split_option2 (Reads s c from) (read_pair s ch c) _ _
     (λ q. reads_single s from ch c h)
     (λ t d q. subst (Paired s c from) q (reads_pair s from ch c))
 
@@ -573,8 +445,8 @@ steps s c =
     let l = read_within s b.place d k (read s b.place d k b.char) in
     let e = b.is in
     let w = reads_token s at k d (omega arith) in
-    split-Reading (Steps s c) (read_token s at k d) _ _
-    (λ r line character m.
+    split_result2 (Steps s c) (read_token s at k d) _ _
+    (λ e m.
     let f = subst (Reads s d at) m w in
     record {
       place = f.place;

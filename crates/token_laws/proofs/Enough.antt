@@ -1,15 +1,14 @@
 -- The number of steps that bounds a text's tokens does not matter.
-use Prim.Native.Nat.{ℕ, zero, suc, ◌-◌, ◌<◌, ◌≤◌}
+use Prim.Native.Nat.{ℕ, zero, suc, ◌-◌, ◌<◌}
 use native.Mathlib.Omega.{arith}
 use mathlib.Core.Path.{◌≡◌, refl, ap}
 use mathlib.Core.List.{[]}
 use lib.ListN.{length}
 use Rattle.base.specs.Bytes.{Bytes}
-use Rattle.cursor.specs.Cursor.{start}
 use Rattle.cursor.specs.declared.Cursor.{Cursor}
 use Rattle.token.specs.Elim.{on-Step}
 use Rattle.token.specs.Step.{step_of}
-use Rattle.token_laws.specs.Tokens.{Tokens, wrong, listed, put, token_at, tokens_from, tokens}
+use Rattle.token_laws.specs.Tokens.{wrong, listed, put, token_at, tokens_from}
 use Rattle.token.specs.declared.Step.{Step}
 use Rattle.token.specs.declared.Step.TheVariants.{Wrong, End, Took}
 use Rattle.token_laws.proofs.Consuming.{steps_consume}

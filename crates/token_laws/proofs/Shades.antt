@@ -4,6 +4,7 @@ use native.Mathlib.Omega.{arith}
 use mathlib.Core.Path.{◌≡◌, refl, subst}
 use mathlib.Core.Bool.{Bool, true, false}
 use lib.Dec.{eqb}
+use Rattle.base.proofs.Options.{split_option, split_option2, split_result2}
 use Rattle.base.specs.Bytes.{Bytes, ascii, same, within}
 use Rattle.base.specs.Choice.{pick_split, clash}
 use Rattle.color.specs.declared.Color.{Color as Rgb}
@@ -13,7 +14,7 @@ use Rattle.cursor.specs.Cursor.{next_char}
 use Rattle.cursor.specs.declared.Cursor.{Cursor}
 use Rattle.cursor.specs.declared.number.Digits.{Digits}
 use Rattle.cursor.specs.Number.{read_digits}
-use Rattle.cursor.proofs.Reaching.{split-Next, split-Digit, split-Significant}
+use Rattle.cursor.proofs.Reaching.{split-Next, split-Significant}
 use Rattle.token_laws.specs.Claims.{ColorsSmall}
 use Rattle.token_number.specs.Number.{is_bare_dot, finish_number, first_digit, read_unsigned, read_signed, read_number}
 use Rattle.token.specs.Read.{
@@ -34,7 +35,7 @@ use Rattle.token.specs.Read.{
   read_pair,
   read_token,
 }
-use Rattle.token_kind.specs.Reason.{lexer_error}
+use Rattle.token_kind.specs.Reason.{Reading}
 use Rattle.token_kind.specs.Signs.{first_pair, get_two_char_simple_token, first_letter, get_one_char_simple_token}
 use Rattle.token.specs.Step.{step_of}
 use Rattle.token_zoom.specs.Zoom.{
@@ -44,24 +45,16 @@ use Rattle.token_zoom.specs.Zoom.{
   read_color,
   read_zoom_level,
   read_hyphen,
-  is_no_level,
   ranged,
   zoom_range,
   read_levels,
   read_zoom_range,
 }
-use Rattle.token.specs.declared.PairRead.{PairRead}
-use Rattle.token.specs.declared.PairRead.TheVariants.{NoPair, Pair}
-use Rattle.token_kind.specs.declared.Reading.{Reading}
-use Rattle.token_kind.specs.declared.Reading.TheVariants.{Failed, Ready}
-use Rattle.token_kind.specs.declared.Sign.{Sign}
-use Rattle.token_kind.specs.declared.Sign.TheVariants.{NoSign, IsSign}
 use Rattle.token.specs.declared.Step.{Step}
 use Rattle.token.specs.declared.Step.TheVariants.{Wrong, End, Took}
 use Rattle.token_kind.specs.declared.Token.{Token}
 use Rattle.token_kind.specs.declared.Token.TheVariants.{Color}
-use Rattle.token_kind.specs.declared.ZoomLevel.{ZoomLevel}
-use Rattle.token_laws.proofs.Consuming.{split-Quoted, split-Sign, split-PairRead, split-Reading}
+use Rattle.std.specs.Prelude.{Option, Some, None, is_none, ◌&&◌, Ok, Err}
 
 abbrev Small : Rgb → Type 0
 Small x = (x.r < 256) × ((x.g < 256) × (x.b < 256))
@@ -74,16 +67,12 @@ no : {A : Type 0} → ◌≡◌ {A = Bool} true false → A
 no z = clash {b = true} refl z
 
 abbrev Shown : Reading → Type 0
-Shown (Failed r l k) = Unit {0}
-Shown (Ready t d) = Shade t
+Shown (Err e) = Unit {0}
+Shown (Ok (t, d)) = Shade t
 
-shown_error : (r : ℕ) (d : Cursor) → Shown (lexer_error r d)
-unfolding lexer_error
-shown_error r d = tt
-
-abbrev ShownSign : Sign → Type 0
-ShownSign NoSign = Unit {0}
-ShownSign (IsSign t) = Shade t
+abbrev ShownSign : Option Token → Type 0
+ShownSign None = Unit {0}
+ShownSign (Some t) = Shade t
 
 two_shown : (a b : ℕ) → ShownSign (get_two_char_simple_token a b)
 unfolding get_two_char_simple_token first_pair
@@ -131,7 +120,7 @@ shown_color s c =
     pick_split Shown (eqb h.count 6) _ _ (λ t. shade (six_digits h.value) (six_small h.value)) λ t.
     pick_split Shown (eqb h.count 3) _ _
     (λ u. shade (three_digits h.value) (three_small h.value))
-    (λ u. shown_error _ h.end)
+    (λ u. tt)
 
 -- all else is none
 shown_identifier : (s : Bytes) (from : ℕ) (c : Cursor) → Shown (read_identifier s from c)
@@ -140,15 +129,15 @@ shown_identifier s from c x e = no cc
 
 shown_string : (s : Bytes) (c : Cursor) → Shown (read_string s c)
 unfolding read_string
-shown_string s c = split-Quoted Shown (read_quoted s c) _ _ (λ d q. shown_error _ d) (λ r d q x e. no cc)
+shown_string s c = split_result2 Shown (read_quoted s c) _ _ (λ e q. tt) (λ r d q x e. no cc)
 
 shown_import : (s : Bytes) (c : Cursor) → Shown (read_import s c)
 unfolding read_import
 shown_import s c =
-    split-Next Shown (next_char s c) _ _ (λ d q. shown_error _ d) λ k d q.
+    split-Next Shown (next_char s c) _ _ (λ d q. tt) λ k d q.
     pick_split Shown (eqb k 34) _ _
-    (λ t. split-Quoted Shown (read_quoted s d) _ _ (λ e m. shown_error _ e) (λ r e m x z. no cc))
-    (λ t. shown_error _ d)
+    (λ t. split_result2 Shown (read_quoted s d) _ _ (λ e m. tt) (λ r e m x z. no cc))
+    (λ t. tt)
 
 shown_directive : (s : Bytes) (from : ℕ) (c : Cursor) → Shown (read_directive s from c)
 unfolding read_directive
@@ -160,30 +149,30 @@ shown_directive s from c =
 shown_at : (s : Bytes) (c : Cursor) → Shown (read_at_directive s c)
 unfolding read_at_directive
 shown_at s c =
-    split-Next Shown (next_char s c) _ _ (λ d q. shown_error _ d) λ k d q.
+    split-Next Shown (next_char s c) _ _ (λ d q. tt) λ k d q.
     pick_split Shown (can_be_in_at_directive k) _ _
     (λ t. shown_directive s c.at (at_directive_end s d))
-    (λ t. shown_error _ d)
+    (λ t. tt)
 
 shown_finished : (minus : Bool) (x : Digits) → Shown (finish_number minus x)
 unfolding finish_number
 shown_finished minus x =
-    pick_split Shown (is_bare_dot x.sum) _ _ (λ t. shown_error _ x.end) (λ t y e. no cc)
+    pick_split Shown (is_bare_dot x.sum) _ _ (λ t. tt) (λ t y e. no cc)
 
 shown_unsigned : (s : Bytes) (minus : Bool) (ch : ℕ) (c : Cursor) → Shown (read_unsigned s minus ch c)
 unfolding read_unsigned
 shown_unsigned s minus ch c =
-    split-Digit Shown (to_digit ch 10) _ _
+    split_option Shown (to_digit ch 10) _ _
     (λ m.
     pick_split Shown (eqb ch 46) _ _
     (λ t. shown_finished minus (read_digits s c (first_digit 0 true)))
-    (λ t. shown_error _ c))
+    (λ t. tt))
     (λ v m. shown_finished minus (read_digits s c (first_digit v false)))
 
 shown_signed : (s : Bytes) (minus : Bool) (c : Cursor) → Shown (read_signed s minus c)
 unfolding read_signed
 shown_signed s minus c =
-    split-Next Shown (next_char s c) _ _ (λ d q. shown_error _ d) λ k d q. shown_unsigned s minus k d
+    split-Next Shown (next_char s c) _ _ (λ d q. tt) λ k d q. shown_unsigned s minus k d
 
 shown_number : (s : Bytes) (ch : ℕ) (c : Cursor) → Shown (read_number s ch c)
 unfolding read_number
@@ -194,11 +183,11 @@ shown_number s ch c =
 shown_after_minus : (s : Bytes) (from : ℕ) (c : Cursor) → Shown (read_after_minus s from c)
 unfolding read_after_minus
 shown_after_minus s from c =
-    split-Next Shown (next_char s c) _ _ (λ d q. shown_error _ c) λ k d q.
+    split-Next Shown (next_char s c) _ _ (λ d q. tt) λ k d q.
     pick_split Shown (in_span 48 57 k) _ _ (λ t. shown_number s 45 c) λ t.
-    pick_split Shown (can_continue_identifier k) _ _ (λ u. shown_identifier s from c) (λ u. shown_error _ c)
+    pick_split Shown (can_continue_identifier k) _ _ (λ u. shown_identifier s from c) (λ u. tt)
 
-shown_ranged : (min : ZoomLevel) (had : Bool) (max : ZoomLevel) (d : Cursor) → Shown (ranged min had max d)
+shown_ranged : (min : Option ℕ) (had : Bool) (max : Option ℕ) (d : Cursor) → Shown (ranged min had max d)
 unfolding ranged
 shown_ranged min had max d = pick_split Shown had _ _ (λ t x e. no cc) (λ t x e. no cc)
 
@@ -206,27 +195,22 @@ shown_levels : (s : Bytes) (c : Cursor) → Shown (read_levels s c)
 unfolding read_levels zoom_range
 shown_levels s c =
     let min = read_zoom_level s c in
-    let h = read_hyphen s min.end in
-    let max = read_zoom_level s h.end in
-    pick_split Shown (is_no_level min.level) _ _
-    (λ t.
-    pick_split Shown (is_no_level max.level) _ _
-    (λ u. shown_error _ max.end)
-    (λ u. shown_ranged min.level h.had max.level max.end))
-    (λ t. shown_ranged min.level h.had max.level max.end)
+    let h = read_hyphen s min.1 in
+    let max = read_zoom_level s h.1 in
+    pick_split Shown (is_none min.0 && is_none max.0) _ _ (λ t. tt) (λ t. shown_ranged min.0 h.0 max.0 max.1)
 
 shown_zoom : (s : Bytes) (c : Cursor) → Shown (read_zoom_range s c)
 unfolding read_zoom_range
 shown_zoom s c =
-    split-Next Shown (next_char s c) _ _ (λ d q. shown_error _ d) λ k d q.
-    pick_split Shown (eqb k 122) _ _ (λ t. shown_levels s d) (λ t. shown_error _ d)
+    split-Next Shown (next_char s c) _ _ (λ d q. tt) λ k d q.
+    pick_split Shown (eqb k 122) _ _ (λ t. shown_levels s d) (λ t. tt)
 
 shown_other : (s : Bytes) (from ch : ℕ) (c : Cursor) → Shown (read_other s from ch c)
 unfolding read_other
 shown_other s from ch c =
     pick_split Shown (eqb ch 45) _ _ (λ t. shown_after_minus s from c) λ t.
     pick_split Shown (eqb ch 124) _ _ (λ u. shown_zoom s c) λ u.
-    pick_split Shown (eqb ch 35) _ _ (λ v. shown_color s c) (λ v. shown_error _ c)
+    pick_split Shown (eqb ch 35) _ _ (λ v. shown_color s c) (λ v. tt)
 
 shown_long : (s : Bytes) (from ch : ℕ) (c : Cursor) → Shown (read_long s from ch c)
 unfolding read_long
@@ -240,22 +224,22 @@ shown_long s from ch c =
 shown_single : (s : Bytes) (from ch : ℕ) (c : Cursor) → Shown (read_single s from ch c)
 unfolding read_single
 shown_single s from ch c =
-    split-Sign Shown (get_one_char_simple_token ch) _ _ (λ q. shown_long s from ch c) λ t q. subst ShownSign q (one_shown ch)
+    split_option Shown (get_one_char_simple_token ch) _ _ (λ q. shown_long s from ch c) λ t q. subst ShownSign q (one_shown ch)
 
-abbrev ShownPair : PairRead → Type 0
-ShownPair NoPair = Unit {0}
-ShownPair (Pair t d) = Shade t
+abbrev ShownPair : Option (Token × Cursor) → Type 0
+ShownPair None = Unit {0}
+ShownPair (Some (t, d)) = Shade t
 
 shown_pair : (s : Bytes) (ch : ℕ) (c : Cursor) → ShownPair (read_pair s ch c)
 unfolding read_pair
 shown_pair s ch c =
     split-Next ShownPair (next_char s c) _ _ (λ d q. tt) λ k d q.
-    split-Sign ShownPair (get_two_char_simple_token ch k) _ _ (λ m. tt) λ t m. subst ShownSign m (two_shown ch k)
+    split_option ShownPair (get_two_char_simple_token ch k) _ _ (λ m. tt) λ t m. subst ShownSign m (two_shown ch k)
 
 shown_token : (s : Bytes) (from ch : ℕ) (c : Cursor) → Shown (read_token s from ch c)
 unfolding read_token
 shown_token s from ch c =
-    split-PairRead Shown (read_pair s ch c) _ _
+    split_option2 Shown (read_pair s ch c) _ _
     (λ q. shown_single s from ch c)
     (λ t d q. subst ShownPair q (shown_pair s ch c))
 
@@ -268,7 +252,7 @@ shown_step : (s : Bytes) (c : Cursor) → ShownStep (step_of s c)
 unfolding step_of
 shown_step s c =
     split-Significant ShownStep (next_significant_char s c) _ _ _ (λ d q. tt) (λ d q. tt) λ at k d q.
-    split-Reading ShownStep (read_token s at k d) _ _ (λ r l k m. tt) (λ t e m. subst Shown m (shown_token s at k d))
+    split_result2 ShownStep (read_token s at k d) _ _ (λ e m. tt) (λ t e m. subst Shown m (shown_token s at k d))
 
 pub colors_small : ColorsSmall
 colors_small s c d x line character q = subst ShownStep q (shown_step s c) x refl

@@ -5,7 +5,6 @@ use Rattle.cursor.specs.Cursor.{start}
 use Rattle.cursor.specs.declared.Cursor.{Cursor}
 use Rattle.token.specs.Elim.{on-Step}
 use Rattle.token.specs.Step.{step_of}
-use Rattle.token.specs.declared.Step.{Step}
 use Rattle.token_kind.specs.declared.Token.{Token}
 
 -- a token, and the line and character that it begins at

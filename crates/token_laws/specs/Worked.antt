@@ -1,5 +1,5 @@
 -- Texts with their tokens: the marked cases of the paper, and its readings.
-use Rattle.std.specs.Prelude.{ℕ, List, [], ◌∷◌, ◌≡◌, pos, Float}
+use Rattle.std.specs.Prelude.{ℕ, List, [], ◌∷◌, ◌≡◌, pos, Float, Some}
 use Rattle.std.specs.Float.{binary64}
 use Rattle.std.specs.Float.Ieee.{of_bits, of_int}
 use Rattle.base.specs.Bytes.{Bytes, ascii}
@@ -8,7 +8,6 @@ use Rattle.token.specs.Read.{range}
 use Rattle.token_laws.specs.Tokens.{Tokens, wrong, listed, token_at, tokens}
 use Rattle.token_kind.specs.declared.Token.{Token}
 use Rattle.token_kind.specs.declared.Token.TheVariants.{Identifier, Number, ZoomRange, Color}
-use Rattle.token_kind.specs.declared.ZoomLevel.TheVariants.{Level}
 
 pub record Worked : Type 0 where
   pub text : Bytes
@@ -45,13 +44,13 @@ cases =
     ∷ worked (ascii "#12345") (wrong 9 1 6)
     ∷ worked (ascii "#fff") (one (Color (rgb 255 255 255)) 5)
     -- a second level counts only after a hyphen
-    ∷ worked (ascii "|z123") (one (ZoomRange (Level 12) (Level 12)) 6)
+    ∷ worked (ascii "|z123") (one (ZoomRange (Some 12) (Some 12)) 6)
     -- a comment begins only where a token may
     ∷ worked (ascii "way//c") (one (Identifier (range 0 6)) 7)
     -- levels have at most two digits
-    ∷ worked (ascii "|z1234") (one (ZoomRange (Level 12) (Level 12)) 7)
-    ∷ worked (ascii "|z12345") (two (ZoomRange (Level 12) (Level 12)) 1 (Number (whole 5)) 7 8)
-    ∷ worked (ascii "|z12-345") (two (ZoomRange (Level 12) (Level 34)) 1 (Number (whole 5)) 8 9)
+    ∷ worked (ascii "|z1234") (one (ZoomRange (Some 12) (Some 12)) 7)
+    ∷ worked (ascii "|z12345") (two (ZoomRange (Some 12) (Some 12)) 1 (Number (whole 5)) 7 8)
+    ∷ worked (ascii "|z12-345") (two (ZoomRange (Some 12) (Some 34)) 1 (Number (whole 5)) 8 9)
     -- ten times and plus the digit are two roundings
     ∷ worked (ascii "9007199254740993") (one (Number (whole 9007199254740992)) 17)
     -- a line comment reads the end, and then the next token does

@@ -6,7 +6,7 @@ ghost use Rattle.token_number.specs.Number.{read_number, read_signed, read_unsig
 
 use base::refusal::{NO_FRACTION, NO_NUMBER_AFTER_SIGN, NOTHING_AFTER_SIGN};
 use cursor::number::{Digits, Sum, read_digits};
-use cursor::{Cursor, Digit, Next, to_digit};
+use cursor::{Cursor, Next, to_digit};
 use token_kind::{Reading, Token, lexer_error};
 
 // The number whose first character is given; c is behind that.
@@ -26,7 +26,7 @@ fn read_signed(s: &[u8], minus: bool, c: Cursor) -> Reading
     ensures { result ≡ read_signed s.now minus c }
 {
     match c.next_char(s) {
-        Next::Done(d) => lexer_error(NOTHING_AFTER_SIGN, d),
+        Next::Done(d) => Err(lexer_error(NOTHING_AFTER_SIGN, d)),
         Next::Got(ch, d) => read_unsigned(s, minus, ch, d),
     }
 }
@@ -36,13 +36,13 @@ fn read_unsigned(s: &[u8], minus: bool, ch: u32, c: Cursor) -> Reading
     ensures { result ≡ read_unsigned s.now minus ch c }
 {
     match to_digit(ch, 10) {
-        Digit::NoDigit => {
+        None => {
             if ch == 46 {
                 return finish_number(minus, read_digits(s, c, first_digit(0, true)));
             }
-            lexer_error(NO_NUMBER_AFTER_SIGN, c)
+            Err(lexer_error(NO_NUMBER_AFTER_SIGN, c))
         }
-        Digit::IsDigit(digit) => finish_number(minus, read_digits(s, c, first_digit(digit, false))),
+        Some(digit) => finish_number(minus, read_digits(s, c, first_digit(digit, false))),
     }
 }
 
@@ -63,16 +63,13 @@ fn finish_number(minus: bool, digits: Digits) -> Reading
     let sum = digits.sum;
     let end = digits.end;
     if is_bare_dot(sum) {
-        return lexer_error(NO_FRACTION, end);
+        return Err(lexer_error(NO_FRACTION, end));
     }
-    Reading::Ready(Token::Number(sum.value(minus)), end)
+    Ok((Token::Number(sum.value(minus)), end))
 }
 
 fn is_bare_dot(sum: Sum) -> bool
     ensures { result ≡ is_bare_dot sum }
 {
-    if sum.dot {
-        return sum.places == 0;
-    }
-    false
+    sum.dot && sum.places == 0
 }

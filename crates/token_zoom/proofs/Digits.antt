@@ -1,30 +1,27 @@
 -- A digit that was read is below its radix, and stands before the place handed back.
-use Prim.Native.Nat.{ℕ, ◌+◌, ◌-◌, ◌*◌, ◌<◌, ◌≤◌}
+use Prim.Native.Nat.{ℕ, ◌+◌, ◌-◌, ◌*◌, ◌<◌}
 use native.Mathlib.Omega.{arith}
 use mathlib.Core.Path.{◌≡◌, refl, sym, ◌∙◌, subst}
-use mathlib.Core.Bool.{Bool, true, false}
 use lib.Dec.{ltb}
 use lib.ListN.{length}
 use mir.Syntax.{w8}
 use mir.Val.{Fits}
 use borrow.Author.Tests.{ltb-true}
+use Rattle.base.proofs.Options.{split_option}
 use Rattle.base.specs.Bytes.{Bytes}
 use Rattle.base.specs.Choice.{pick_split}
 use Rattle.cursor.specs.Class.{digit_value, to_digit}
 use Rattle.cursor.specs.Cursor.{next_char}
 use Rattle.cursor.specs.declared.Cursor.{Cursor}
-use Rattle.cursor.specs.declared.Digit.{Digit}
-use Rattle.cursor.specs.declared.Digit.TheVariants.{NoDigit, IsDigit}
 use Rattle.cursor.specs.declared.Next.TheVariants.{Got}
 use Rattle.cursor.proofs.Onward.{next_on}
-use Rattle.cursor.proofs.Reaching.{split-Next, split-Digit}
+use Rattle.cursor.proofs.Reaching.{split-Next}
 use Rattle.token_zoom.specs.Zoom.{read_digit}
-use Rattle.token_zoom.specs.declared.DigitRead.{DigitRead}
-use Rattle.token_zoom.specs.declared.DigitRead.TheVariants.{NoneRead, OneRead}
+use Rattle.std.specs.Prelude.{Option, Some, None}
 
-abbrev Low : ℕ → Digit → Type 0
-Low radix NoDigit = Unit {0}
-Low radix (IsDigit v) = v < radix
+abbrev Low : ℕ → Option ℕ → Type 0
+Low radix None = Unit {0}
+Low radix (Some v) = v < radix
 
 low : (k radix : ℕ) → Low radix (to_digit k radix)
 unfolding to_digit
@@ -36,29 +33,29 @@ pub record DigitAt (s : Bytes) (radix : ℕ) (c : Cursor) (v : ℕ) (d : Cursor)
   pub char : next_char s c ≡ Got ch d
   pub below : v < radix
 
-abbrev Known : Bytes → ℕ → Cursor → DigitRead → Type 0
-Known s radix c NoneRead = Unit {0}
-Known s radix c (OneRead v d) = DigitAt s radix c v d
+abbrev Known : Bytes → ℕ → Cursor → Option (ℕ × Cursor) → Type 0
+Known s radix c None = Unit {0}
+Known s radix c (Some (v, d)) = DigitAt s radix c v d
 
 known : (s : Bytes) (radix : ℕ) (c : Cursor) → Known s radix c (read_digit s radix c)
 unfolding read_digit
 known s radix c =
     split-Next (Known s radix c) (next_char s c) _ _ (λ d q. tt) λ k d q.
-    split-Digit (Known s radix c) (to_digit k radix) _ _ (λ e. tt) λ v e.
+    split_option (Known s radix c) (to_digit k radix) _ _ (λ e. tt) λ v e.
     record { ch = k; char = q; below = subst (Low radix) e (low k radix) }
 
-module _ (s : Bytes) (radix : ℕ) (c d : Cursor) (v : ℕ) (r : DigitRead) (e : r ≡ read_digit s radix c) (m : r ≡ OneRead v d) where
+module _ (s : Bytes) (radix : ℕ) (c d : Cursor) (v : ℕ) (r : Option (ℕ × Cursor)) (e : r ≡ read_digit s radix c) (m : r ≡ Some (v, d)) where
   pub digit_at : DigitAt s radix c v d
   digit_at = subst (Known s radix c) (sym e ∙ m) (known s radix c)
 
   pub digit_on : length s - d.at < length s - c.at
   digit_on = next_on s c d digit_at.ch (Got digit_at.ch d) (sym digit_at.char) refl
 
-module _ (s : Bytes) (c d : Cursor) (a : ℕ) (r : DigitRead) (e : r ≡ read_digit s 10 c) (m : r ≡ OneRead a d) where
+module _ (s : Bytes) (c d : Cursor) (a : ℕ) (r : Option (ℕ × Cursor)) (e : r ≡ read_digit s 10 c) (m : r ≡ Some (a, d)) where
   pub tens_fit : Fits w8 (10 * a)
   tens_fit = let h = (digit_at s 10 c d a r e m).below in record { fits = omega arith }
 
-  pub level_fits : (f : Cursor) (b : ℕ) (q : DigitRead) → q ≡ read_digit s 10 d → q ≡ OneRead b f → Fits w8 (10 * a + b)
+  pub level_fits : (f : Cursor) (b : ℕ) (q : Option (ℕ × Cursor)) → q ≡ read_digit s 10 d → q ≡ Some (b, f) → Fits w8 (10 * a + b)
   level_fits f b q e' m' =
       let h = (digit_at s 10 c d a r e m).below in
       let h' = (digit_at s 10 d f b q e' m').below in

@@ -2,37 +2,18 @@
 #![tactic(auto)]
 
 ghost use Rattle.std.specs.Prelude.{◌≡◌};
-ghost use Rattle.token_zoom.specs.Zoom.{read_color, read_hex_digits, hex_added, six_digits, three_digits, read_zoom_range, read_levels, zoom_range, ranged, is_no_level, read_hyphen, read_zoom_level, read_digit};
+ghost use Rattle.token_zoom.specs.Zoom.{read_color, read_hex_digits, hex_added, six_digits, three_digits, read_zoom_range, read_levels, zoom_range, ranged, read_hyphen, read_zoom_level, read_digit};
 
 use base::refusal::{COLOR, EMPTY_ZOOM_RANGE, Z_WANTED};
 use color::Color;
-use cursor::{Cursor, Digit, Next, bump, to_digit};
-use token_kind::{Reading, Token, ZoomLevel, lexer_error};
-
-// No digit, or its value and the place behind it.
-#[derive(Clone, Copy)]
-pub enum DigitRead {
-    NoneRead,
-    OneRead(u8, Cursor),
-}
+use cursor::{Cursor, Next, bump, to_digit};
+use token_kind::{Reading, Token, lexer_error};
 
 // The hexadecimal digits so far: how many, and the last of them as a number.
 #[derive(Clone, Copy)]
 pub struct Hex {
     pub count: usize,
     pub value: u32,
-    pub end: Cursor,
-}
-
-#[derive(Clone, Copy)]
-pub struct LevelRead {
-    pub level: ZoomLevel,
-    pub end: Cursor,
-}
-
-#[derive(Clone, Copy)]
-pub struct Hyphen {
-    pub had: bool,
     pub end: Cursor,
 }
 
@@ -43,12 +24,12 @@ pub fn read_color(s: &[u8], c: Cursor) -> Reading
     let count = hex.count;
     let end = hex.end;
     if count == 6 {
-        return Reading::Ready(Token::Color(six_digits(hex.value)), end);
+        return Ok((Token::Color(six_digits(hex.value)), end));
     }
     if count == 3 {
-        return Reading::Ready(Token::Color(three_digits(hex.value)), end);
+        return Ok((Token::Color(three_digits(hex.value)), end));
     }
-    lexer_error(COLOR, end)
+    Err(lexer_error(COLOR, end))
 }
 
 fn read_hex_digits(s: &[u8], c: Cursor) -> Hex
@@ -59,14 +40,14 @@ fn read_hex_digits(s: &[u8], c: Cursor) -> Hex
     let mut value = 0;
     loop {
         match read_digit(s, 16, d) {
-            DigitRead::NoneRead => {
+            None => {
                 return Hex {
                     count,
                     value,
                     end: d,
                 };
             }
-            DigitRead::OneRead(digit, e) => {
+            Some((digit, e)) => {
                 count = bump(count);
                 value = hex_added(value, digit);
                 d = e;
@@ -108,13 +89,8 @@ pub fn read_zoom_range(s: &[u8], c: Cursor) -> Reading
     ensures { result ≡ read_zoom_range s.now c }
 {
     match c.next_char(s) {
-        Next::Done(d) => lexer_error(Z_WANTED, d),
-        Next::Got(ch, d) => {
-            if ch == 122 {
-                return read_levels(s, d);
-            }
-            lexer_error(Z_WANTED, d)
-        }
+        Next::Got(122, d) => read_levels(s, d),
+        Next::Got(_, d) | Next::Done(d) => Err(lexer_error(Z_WANTED, d)),
     }
 }
 
@@ -122,92 +98,58 @@ pub fn read_zoom_range(s: &[u8], c: Cursor) -> Reading
 fn read_levels(s: &[u8], c: Cursor) -> Reading
     ensures { result ≡ read_levels s.now c }
 {
-    let min = read_zoom_level(s, c);
-    let min_zoom = min.level;
-    let behind_min = min.end;
-    let hyphen = read_hyphen(s, behind_min);
-    let had_hyphen = hyphen.had;
-    let behind_hyphen = hyphen.end;
-    let max = read_zoom_level(s, behind_hyphen);
-    let max_zoom = max.level;
-    let end = max.end;
-    zoom_range(min_zoom, had_hyphen, max_zoom, end)
+    let (min, d) = read_zoom_level(s, c);
+    let (had_hyphen, e) = read_hyphen(s, d);
+    let (max, end) = read_zoom_level(s, e);
+    zoom_range(min, had_hyphen, max, end)
 }
 
-fn zoom_range(min: ZoomLevel, had: bool, max: ZoomLevel, end: Cursor) -> Reading
+fn zoom_range(min: Option<u8>, had: bool, max: Option<u8>, end: Cursor) -> Reading
     ensures { result ≡ zoom_range min had max end }
 {
-    if is_no_level(min) {
-        if is_no_level(max) {
-            return lexer_error(EMPTY_ZOOM_RANGE, end);
-        }
-        return ranged(min, had, max, end);
+    if min.is_none() && max.is_none() {
+        return Err(lexer_error(EMPTY_ZOOM_RANGE, end));
     }
     ranged(min, had, max, end)
 }
 
-fn ranged(min: ZoomLevel, had: bool, max: ZoomLevel, end: Cursor) -> Reading
+fn ranged(min: Option<u8>, had: bool, max: Option<u8>, end: Cursor) -> Reading
     ensures { result ≡ ranged min had max end }
 {
-    if had {
-        return Reading::Ready(Token::ZoomRange(min, max), end);
-    }
-    Reading::Ready(Token::ZoomRange(min, min), end)
+    let upper = if had { max } else { min };
+    Ok((Token::ZoomRange(min, upper), end))
 }
 
-fn is_no_level(level: ZoomLevel) -> bool
-    ensures { result ≡ is_no_level level }
-{
-    match level {
-        ZoomLevel::NoLevel => true,
-        ZoomLevel::Level(_) => false,
-    }
-}
-
-fn read_hyphen(s: &[u8], c: Cursor) -> Hyphen
+fn read_hyphen(s: &[u8], c: Cursor) -> (bool, Cursor)
     ensures { result ≡ read_hyphen s.now c }
 {
     match c.next_char(s) {
-        Next::Done(_) => Hyphen { had: false, end: c },
-        Next::Got(ch, d) => {
-            if ch == 45 {
-                return Hyphen { had: true, end: d };
-            }
-            Hyphen { had: false, end: c }
-        }
+        Next::Got(45, d) => (true, d),
+        _ => (false, c),
     }
 }
 
 // One or two digits.
-fn read_zoom_level(s: &[u8], c: Cursor) -> LevelRead
+fn read_zoom_level(s: &[u8], c: Cursor) -> (Option<u8>, Cursor)
     ensures { result ≡ read_zoom_level s.now c }
 {
     match read_digit(s, 10, c) {
-        DigitRead::NoneRead => LevelRead {
-            level: ZoomLevel::NoLevel,
-            end: c,
-        },
-        DigitRead::OneRead(num1, d) => match read_digit(s, 10, d) {
-            DigitRead::NoneRead => LevelRead {
-                level: ZoomLevel::Level(num1),
-                end: d,
-            },
-            DigitRead::OneRead(num2, e) => LevelRead {
-                level: ZoomLevel::Level(10 * num1 + num2),
-                end: e,
-            },
+        None => (None, c),
+        Some((num1, d)) => match read_digit(s, 10, d) {
+            None => (Some(num1), d),
+            Some((num2, e)) => (Some(10 * num1 + num2), e),
         },
     }
 }
 
-fn read_digit(s: &[u8], radix: u8, c: Cursor) -> DigitRead
+fn read_digit(s: &[u8], radix: u8, c: Cursor) -> Option<(u8, Cursor)>
     ensures { result ≡ read_digit s.now radix c }
 {
     match c.next_char(s) {
-        Next::Done(_) => DigitRead::NoneRead,
-        Next::Got(ch, d) => match to_digit(ch, radix) {
-            Digit::NoDigit => DigitRead::NoneRead,
-            Digit::IsDigit(digit) => DigitRead::OneRead(digit, d),
-        },
+        Next::Done(_) => None,
+        Next::Got(ch, d) => {
+            let digit = to_digit(ch, radix)?;
+            Some((digit, d))
+        }
     }
 }

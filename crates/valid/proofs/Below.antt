@@ -1,25 +1,22 @@
--- Every place below a count, judged from the last one on.
-use Prim.Native.Nat.{ℕ, zero, suc, ◌≤◌, ◌<◌, ◌-◌}
+-- Every number below a count: one that fails, and one more that holds.
+use Prim.Native.Nat.{ℕ, zero, suc, ◌+◌, ◌<◌}
+use native.Mathlib.Numerals.{add-one}
 use native.Mathlib.Omega.{arith}
 use mathlib.Core.Path.{◌≡◌, refl, sym, ◌∙◌, ap}
 use mathlib.Core.Bool.{Bool, true, false}
-use Rattle.base.specs.Choice.{if_true, if_false}
+use Rattle.base.specs.Choice.{if_true, if_false, by-test, clash}
 use Rattle.valid.specs.Valid.{all_below}
 
-the_last : (n : ℕ) → n ≡ suc n - 1
-the_last n = omega arith
-
-pub below_none : (p : ℕ → Bool) → (n : ℕ) → n ≤ 0 → true ≡ all_below p n
+-- one that fails, below n
+pub below_fails : (p : ℕ → Bool) (n i : ℕ) → i < n → p i ≡ false → false ≡ all_below p n
 unfolding all_below
-below_none p zero h = refl
-below_none p (suc n) h = absurd (omega arith)
+below_fails p zero i h e = absurd (omega arith)
+below_fails p (suc n) i h e =
+    by-test (p n)
+    (λ t. if_true (p n) (all_below p n) false t (below_fails p n i (let d : i ≡ n → ⊥ = λ q. clash t (ap p (sym q) ∙ e) in omega arith) e))
+    (λ f. if_false (p n) (all_below p n) false f refl)
 
-pub below_fails : (p : ℕ → Bool) → (n : ℕ) → 0 < n → p (n - 1) ≡ false → false ≡ all_below p n
+-- one more that holds
+pub below_next : (p : ℕ → Bool) (n : ℕ) → all_below p n ≡ true → p n ≡ true → all_below p (n + 1) ≡ true
 unfolding all_below
-below_fails p zero h e = absurd (omega arith)
-below_fails p (suc n) h e = if_false (p n) (all_below p n) false (ap p (the_last n) ∙ e) refl
-
-pub below_next : (p : ℕ → Bool) → (n : ℕ) → 0 < n → p (n - 1) ≡ true → all_below p (n - 1) ≡ all_below p n
-unfolding all_below
-below_next p zero h e = absurd (omega arith)
-below_next p (suc n) h e = sym (ap (all_below p) (the_last n)) ∙ if_true (p n) (all_below p n) false (ap p (the_last n) ∙ e) refl
+below_next p n a e = ap (all_below p) (add-one n) ∙ sym (if_true (p n) (all_below p n) false e (sym a))

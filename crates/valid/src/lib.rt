@@ -1,7 +1,7 @@
 // Whether handed tables are sound, every entry below the counts: what refusal 22 judges.
 #![tactic(auto)]
 
-ghost use Rattle.std.specs.Prelude.{◌≡◌, eqb, leb, ◌≤◌, ◌<◌, ◌+◌, ◌*◌, ◌%◌, length};
+ghost use Rattle.std.specs.Prelude.{◌≡◌, ℕ, Bool, eqb, leb, ◌≤◌, ◌<◌, ◌+◌, ◌*◌, ◌%◌, length};
 ghost use Rattle.table.specs.Value.{word_at};
 ghost use Rattle.valid.specs.Valid.{span_in, two_zeros, marked_span, rule_sound, selector_sound, named_entry, test_sound, test_value, number_value, property_sound, value_sound, one_span, two_spans, color_words, delta_words, all_below, entries_held, counts_held, entries_sound, tables_sound};
 ghost use Rattle.base.specs.Choice.{pick};
@@ -97,60 +97,45 @@ fn entries_sound(
     properties_sound(properties, n.properties, n.numbers, bundle)
 }
 
+// Whether what is asked holds of every number below n.
+fn each_below<F: Fn(usize) -> bool>(n: usize, holds: F) -> bool
+    requires { (i : ℕ) → i < n → F.pre holds i }
+    ensures { (p : ℕ → Bool) → ((i : ℕ) (r : Bool) → i < n → F.post holds i r → r ≡ p i) → result ≡ all_below p n }
+{
+    for i in 0..n {
+        if !holds(i) {
+            return false;
+        }
+    }
+    true
+}
+
 fn rules_sound(t: &[u32], n: usize, selectors: usize, properties: usize) -> bool
     requires { n * 8 ≤ length t.now }
     ensures { result ≡ all_below (rule_sound t.now selectors properties) n }
 {
-    let mut left = n;
-    while 0 < left {
-        if !rule_sound(t, left - 1, selectors, properties) {
-            return false;
-        }
-        left -= 1;
-    }
-    true
+    each_below(n, |i| rule_sound(t, i, selectors, properties))
 }
 
 fn selectors_sound(t: &[u32], n: usize, tests: usize, bundle: usize) -> bool
     requires { n * 8 ≤ length t.now }
     ensures { result ≡ all_below (selector_sound t.now tests bundle) n }
 {
-    let mut left = n;
-    while 0 < left {
-        if !selector_sound(t, left - 1, tests, bundle) {
-            return false;
-        }
-        left -= 1;
-    }
-    true
+    each_below(n, |i| selector_sound(t, i, tests, bundle))
 }
 
 fn tests_sound(t: &[u32], xs: &[f64], n: usize, numbers: usize, bundle: usize) -> bool
     requires { n * 8 ≤ length t.now }
     ensures { result ≡ all_below (test_sound t.now xs.now numbers bundle) n }
 {
-    let mut left = n;
-    while 0 < left {
-        if !test_sound(t, xs, left - 1, numbers, bundle) {
-            return false;
-        }
-        left -= 1;
-    }
-    true
+    each_below(n, |i| test_sound(t, xs, i, numbers, bundle))
 }
 
 fn properties_sound(t: &[u32], n: usize, numbers: usize, bundle: usize) -> bool
     requires { n * 8 ≤ length t.now }
     ensures { result ≡ all_below (property_sound t.now numbers bundle) n }
 {
-    let mut left = n;
-    while 0 < left {
-        if !property_sound(t, left - 1, numbers, bundle) {
-            return false;
-        }
-        left -= 1;
-    }
-    true
+    each_below(n, |i| property_sound(t, i, numbers, bundle))
 }
 
 // Word j of an entry that the table holds: the counts are judged once, so no word is tested for its place.

@@ -16,9 +16,8 @@ use Rattle.cascade.specs.Clause.{star, default_name}
 use Rattle.decode.specs.Decode.{layer_at}
 use Rattle.walk.specs.Rows.{assigns}
 use Rattle.walk.specs.Selectors.{layer_in}
-use Rattle.walk.specs.declared.Stepped.{Stepped}
-use Rattle.walk.specs.declared.Stepped.TheVariants.{Refused, Now}
 use Rattle.walk.specs.Run.{Run, stop, going, bind, told, over, copied, assign_at, assign_all, seek, new_row, touch_of, step_of}
+use Rattle.std.specs.Prelude.{Result, Ok, Err}
 
 -- ---- names of layers
 
@@ -181,10 +180,10 @@ less_zero n = omega arith
 
 -- ---- runs
 
-pub told_stop : (r : Stepped) (t : List ℕ) (x : Run) (k : ℕ) → told r t ≡ x → r ≡ Refused k → x ≡ stop k
+pub told_stop : (r : Result ℕ ℕ) (t : List ℕ) (x : Run) (k : ℕ) → told r t ≡ x → r ≡ Err k → x ≡ stop k
 told_stop r t x k e m = sym e ∙ ap (λ q. told q t) m
 
-pub told_going : (r : Stepped) (t : List ℕ) (x : Run) (n : ℕ) → told r t ≡ x → r ≡ Now n → x ≡ going n t
+pub told_going : (r : Result ℕ ℕ) (t : List ℕ) (x : Run) (n : ℕ) → told r t ≡ x → r ≡ Ok n → x ≡ going n t
 told_going r t x n e m = sym e ∙ ap (λ q. told q t) m
 
 pub bind_stop : (x : Run) (f : ℕ → List ℕ → Run) (k : ℕ) → x ≡ stop k → bind x f ≡ stop k
@@ -206,12 +205,12 @@ module _ (name : ℕ → Bytes) (t : List ℕ) (m i : ℕ) (ps : List ℕ) where
   unfolding assign_all
   all_end h = ap (λ k. assign_all name t m i k ps) (none_left i m h)
 
-  module _ (h : i < m) (r : Stepped) (t' : List ℕ) (e : told r t' ≡ assign_at name t m i ps) where
-    pub all_stop : (k : ℕ) → r ≡ Refused k → assign_all name t m i (m - i) ps ≡ stop k
+  module _ (h : i < m) (r : Result ℕ ℕ) (t' : List ℕ) (e : told r t' ≡ assign_at name t m i ps) where
+    pub all_stop : (k : ℕ) → r ≡ Err k → assign_all name t m i (m - i) ps ≡ stop k
     unfolding assign_all
     all_stop k q = ap (λ k. assign_all name t m i k ps) (one_less i m h) ∙ bind_stop _ _ k (told_stop r t' _ k e q)
 
-    pub all_next : (n : ℕ) → r ≡ Now n → assign_all name t m i (m - i) ps ≡ assign_all name t' m (i + 1) (m - (i + 1)) ps
+    pub all_next : (n : ℕ) → r ≡ Ok n → assign_all name t m i (m - i) ps ≡ assign_all name t' m (i + 1) (m - (i + 1)) ps
     unfolding assign_all
     all_next n q = ap (λ k. assign_all name t m i k ps) (one_less i m h) ∙ bind_going _ _ n t' (told_going r t' _ n e q)
 

@@ -13,11 +13,8 @@ use Rattle.base.specs.Refusal.{refusal, of_entity}
 use Rattle.base.specs.Table.{capacity_of}
 use Rattle.base.specs.declared.refusal.Refusal.{Refusal}
 use Rattle.table.specs.Value.{word_at}
-use Rattle.entity.specs.Elim.{SingleEntity-BadEntity, SingleEntity-OneEntity}
 use Rattle.entity.specs.Layout.{single_of}
 use Rattle.entity.specs.declared.EntityRange.{EntityRange}
-use Rattle.entity.specs.declared.SingleEntity.{SingleEntity}
-use Rattle.entity.specs.declared.SingleEntity.TheVariants.{BadEntity, OneEntity}
 use Rattle.cascade.specs.Match.{Verdict, pass, fail, out}
 use Rattle.valid.specs.Valid.{entries_held, counts_held, tables_sound}
 use Rattle.valid.specs.declared.Counts.{Counts}
@@ -26,27 +23,25 @@ use Rattle.matching.specs.Matching.{fit_of}
 use Rattle.matching.specs.declared.Fit.{Fit}
 use Rattle.matching.specs.declared.Fit.TheVariants.{Out, Misses, Fits}
 use Rattle.walk.proofs.LayerLaws.{told_stop, told_going, bind_stop, bind_going, one_less, none_left}
-use Rattle.walk.specs.declared.Stepped.{Stepped}
-use Rattle.walk.specs.declared.Stepped.TheVariants.{Refused, Now}
 use Rattle.walk.specs.Run.{Run, stop, going, told, seek, step_of, on_verdict, hit_of, selectors_of, rule_of, rules_of}
 use Rattle.walk.specs.Maps.{no_rows, finish, walk_of, maps_of, layer_place}
 use Rattle.walk.specs.Selectors.{layer_in, verdict_in}
-use Rattle.walk.specs.declared.PropertyMaps.{PropertyMaps}
-use Rattle.walk.specs.declared.PropertyMaps.TheVariants.{NoMaps, Maps}
+use Rattle.std.specs.Prelude.{Result, Ok, Err}
+use Rattle.base.specs.Option.{result_err, result_ok}
 
 module _ (name layer : ℕ → Bytes) (verdict_of : ℕ → Verdict) (t : List ℕ) (n s end : ℕ) (ps : List ℕ) where
   pub selectors_end : end ≤ s → selectors_of name layer verdict_of t n s (end - s) ps ≡ going n t
   unfolding selectors_of
   selectors_end h = ap (λ k. selectors_of name layer verdict_of t n s k ps) (none_left s end h)
 
-  module _ (h : s < end) (r : Stepped) (t' : List ℕ) (e : told r t' ≡ hit_of name layer verdict_of t n s ps) where
-    pub selectors_stop : (k : ℕ) → r ≡ Refused k → selectors_of name layer verdict_of t n s (end - s) ps ≡ stop k
+  module _ (h : s < end) (r : Result ℕ ℕ) (t' : List ℕ) (e : told r t' ≡ hit_of name layer verdict_of t n s ps) where
+    pub selectors_stop : (k : ℕ) → r ≡ Err k → selectors_of name layer verdict_of t n s (end - s) ps ≡ stop k
     unfolding selectors_of
     selectors_stop k q = ap (λ k. selectors_of name layer verdict_of t n s k ps) (one_less s end h) ∙ bind_stop _ _ k (told_stop r t' _ k e q)
 
     pub selectors_next :
         (m : ℕ)
-        → r ≡ Now m
+        → r ≡ Ok m
         → selectors_of name layer verdict_of t n s (end - s) ps ≡ selectors_of name layer verdict_of t' m (s + 1) (end - (s + 1)) ps
     unfolding selectors_of
     selectors_next m q =
@@ -58,14 +53,14 @@ module _ (name layer : ℕ → Bytes) (verdict_of : ℕ → Verdict) (rules t : 
   unfolding rules_of
   rules_end h = ap (rules_of name layer verdict_of rules t n r) (none_left r total h)
 
-  module _ (h : r < total) (a : Stepped) (t' : List ℕ) (e : told a t' ≡ rule_of name layer verdict_of rules t n r) where
-    pub rules_stop : (k : ℕ) → a ≡ Refused k → rules_of name layer verdict_of rules t n r (total - r) ≡ stop k
+  module _ (h : r < total) (a : Result ℕ ℕ) (t' : List ℕ) (e : told a t' ≡ rule_of name layer verdict_of rules t n r) where
+    pub rules_stop : (k : ℕ) → a ≡ Err k → rules_of name layer verdict_of rules t n r (total - r) ≡ stop k
     unfolding rules_of
     rules_stop k q = ap (rules_of name layer verdict_of rules t n r) (one_less r total h) ∙ bind_stop _ _ k (told_stop a t' _ k e q)
 
     pub rules_next :
         (m : ℕ)
-        → a ≡ Now m
+        → a ≡ Ok m
         → rules_of name layer verdict_of rules t n r (total - r) ≡ rules_of name layer verdict_of rules t' m (r + 1) (total - (r + 1))
     unfolding rules_of
     rules_next m q = ap (rules_of name layer verdict_of rules t n r) (one_less r total h) ∙ bind_going _ _ m t' (told_going a t' _ m e q)
@@ -107,17 +102,17 @@ module _ (name layer : ℕ → Bytes) (verdict_of : ℕ → Verdict) (t : List �
 pub zeroed : (n : ℕ) (u : List ℕ) → u ≡ replicate n 0 → n ≡ 4323 → u ≡ no_rows
 zeroed n u e p = e ∙ ap (λ k. replicate k 0) p
 
-module _ (multipolygons : Bool) (place : ℕ) (q : Stepped) (t u : List ℕ) where
+module _ (multipolygons : Bool) (place : ℕ) (q : Result ℕ ℕ) (t u : List ℕ) where
   pub finish_refused :
       (k : ℕ) (e : Refusal)
-      → q ≡ Refused k
+      → q ≡ Err k
       → e ≡ of_entity k multipolygons place
       → u ≡ no_rows
-      → (NoMaps e, u) ≡ finish multipolygons place (told q t)
+      → (Err e, u) ≡ finish multipolygons place (told q t)
   unfolding finish
-  finish_refused k e y z w = ap₂ (λ x v. (NoMaps x, v)) z w ∙ sym (ap (λ a. finish multipolygons place (told a t)) y)
+  finish_refused k e y z w = ap₂ (λ x v. (Err x, v)) z w ∙ sym (ap (λ a. finish multipolygons place (told a t)) y)
 
-  pub finish_going : (n : ℕ) → q ≡ Now n → (Maps n, t) ≡ finish multipolygons place (told q t)
+  pub finish_going : (n : ℕ) → q ≡ Ok n → (Ok n, t) ≡ finish multipolygons place (told q t)
   unfolding finish
   finish_going n y = sym (ap (λ a. finish multipolygons place (told a t)) y)
 
@@ -144,29 +139,29 @@ module _ (bundle rules selectors tests properties : List ℕ) (numbers : List Fl
         → u ≡ no_rows
         → (e : Refusal)
         → e ≡ refusal 22 0 0 0 0
-        → (NoMaps e, u) ≡ maps_of bundle rules selectors tests properties numbers n zoom entity
+        → (Err e, u) ≡ maps_of bundle rules selectors tests properties numbers n zoom entity
     unfolding maps_of
-    maps_broken y u z e w = if_false _ _ _ (via i (not-true b y)) (ap₂ (λ x v. (NoMaps x, v)) w z)
+    maps_broken y u z e w = if_false _ _ _ (via i (not-true b y)) (ap₂ (λ x v. (Err x, v)) w z)
 
-    module _ (y : not b ≡ false) (q : SingleEntity) (j : q ≡ single_of entity) where
+    module _ (y : not b ≡ false) (q : Result EntityRange Refusal) (j : q ≡ single_of entity) where
       pub maps_bad :
           (u : List ℕ)
           → u ≡ no_rows
           → (e : Refusal)
-          → q ≡ BadEntity e
-          → (NoMaps e, u) ≡ maps_of bundle rules selectors tests properties numbers n zoom entity
+          → q ≡ Err e
+          → (Err e, u) ≡ maps_of bundle rules selectors tests properties numbers n zoom entity
       unfolding maps_of
       maps_bad u z e w =
-          if_true _ _ _ (via i (not-false b y)) (SingleEntity-BadEntity _ _ _ (via j w) (ap (λ v. (NoMaps e, v)) z))
+          if_true _ _ _ (via i (not-false b y)) (result_err _ _ _ (via j w) (ap (λ v. (Err e, v)) z))
 
       pub maps_walked :
           (e : EntityRange)
-          → q ≡ OneEntity e
-          → (x : PropertyMaps × List ℕ)
+          → q ≡ Ok e
+          → (x : Result ℕ Refusal × List ℕ)
           → x ≡ walk_of bundle rules selectors tests properties numbers n.rules zoom entity e false 0
           → x ≡ maps_of bundle rules selectors tests properties numbers n zoom entity
       unfolding maps_of
-      maps_walked e w x walked = if_true _ _ _ (via i (not-false b y)) (SingleEntity-OneEntity _ _ _ (via j w) walked)
+      maps_walked e w x walked = if_true _ _ _ (via i (not-false b y)) (result_ok _ _ _ (via j w) walked)
 
 -- ---- the walk alone
 
@@ -178,9 +173,9 @@ module _ (bundle rules selectors tests properties : List ℕ) (numbers : List Fl
       → r ≡ refusal 22 0 0 0 0
       → (u : List ℕ)
       → u ≡ no_rows
-      → (NoMaps r, u) ≡ walk_of bundle rules selectors tests properties numbers total zoom entity e multipolygons place
+      → (Err r, u) ≡ walk_of bundle rules selectors tests properties numbers total zoom entity e multipolygons place
   unfolding walk_of
-  walk_many h r w u z = if_true _ _ _ (lt-ltb 16384 total h) (ap₂ (λ x v. (NoMaps x, v)) w z)
+  walk_many h r w u z = if_true _ _ _ (lt-ltb 16384 total h) (ap₂ (λ x v. (Err x, v)) w z)
 
   pub walk_done :
       total ≤ 16384
@@ -189,7 +184,7 @@ module _ (bundle rules selectors tests properties : List ℕ) (numbers : List Fl
       → (a : Run)
       → a ≡ rules_of (name_at bundle properties) (layer_in bundle selectors)
       (verdict_in bundle selectors tests numbers zoom entity e) rules u 0 0 total
-      → (x : PropertyMaps × List ℕ)
+      → (x : Result ℕ Refusal × List ℕ)
       → x ≡ finish multipolygons place a
       → x ≡ walk_of bundle rules selectors tests properties numbers total zoom entity e multipolygons place
   unfolding walk_of

@@ -1,14 +1,12 @@
 -- The walk as the code runs it, over one lent table of 33 rows of 131 words. A row is a layer: the number of the selector that
 -- named it, how many properties it has, and their numbers, 128 at most. Names and verdicts are functions of a number.
-use Rattle.std.specs.Prelude.{ℕ, zero, suc, ◌+◌, ◌*◌, ◌-◌, ◌≤◌, cond, List, [], ◌∷◌, ◌++◌, ltb, get_or, take, drop, length, set, replicate}
+use Rattle.std.specs.Prelude.{ℕ, zero, suc, ◌+◌, ◌*◌, ◌-◌, ◌≤◌, cond, List, [], ◌∷◌, ◌++◌, ltb, get_or, take, drop, length, set, replicate, Result, Ok, Err}
 use Rattle.base.specs.Bytes.{Bytes, same}
 use Rattle.table.specs.Value.{word_at, range_at}
 use Rattle.cascade.specs.Clause.{star}
 use Rattle.cascade.specs.Match.{Verdict, pass, fail, out}
 use Rattle.decode.specs.Decode.{places, places_in}
 use Rattle.walk.specs.Rows.{assigns}
-use Rattle.walk.specs.declared.Stepped.{Stepped}
-use Rattle.walk.specs.declared.Stepped.TheVariants.{Refused, Now}
 
 -- a run is stopped by a refusal's number, or goes on with a count of layers and the table
 pub data Run : Type 0 where
@@ -16,14 +14,14 @@ pub data Run : Type 0 where
   going : ℕ → List ℕ → Run
 
 -- what an answer tells, beside the table that it leaves: after a refusal the table is not spoken of
-abbrev pub told : Stepped → List ℕ → Run
-told (Refused k) t = stop k
-told (Now n) t = going n t
+abbrev pub told : Result ℕ ℕ → List ℕ → Run
+told (Err k) t = stop k
+told (Ok n) t = going n t
 
 -- a count that an answer hands on stays within the rows
-abbrev pub IsBounded : Stepped → Type 0
-IsBounded (Refused k) = Unit {0}
-IsBounded (Now n) = n ≤ 32
+abbrev pub IsBounded : Result ℕ ℕ → Type 0
+IsBounded (Err k) = Unit {0}
+IsBounded (Ok n) = n ≤ 32
 
 unfoldable pub bind : Run → (ℕ → List ℕ → Run) → Run
 bind (stop k) f = stop k

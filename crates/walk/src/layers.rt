@@ -4,7 +4,6 @@ ghost use Rattle.decode.specs.Decode.{name_at, places};
 ghost use Rattle.walk.specs.Selectors.{layer_in};
 ghost use Rattle.walk.specs.Run.{told, IsBounded, assign_at, assign_all, copied, seek, new_row, touch_of, step_of};
 
-use crate::Stepped;
 use crate::names::is_layer;
 use base::Range;
 use base::refusal::{TOO_MANY_LAYERS, TOO_MANY_NAMES};
@@ -83,7 +82,7 @@ fn assign_layer(
     i: usize,
     from: u32,
     to: u32,
-) -> Stepped
+) -> Result<usize, usize>
     requires { (m ≤ 32) × (i ≤ 32) × (length t.old ≡ 4323) }
     ensures t_after { told result t.new ≡ assign_at (name_at bundle.now properties.now) t.old m i (places from (to - from)) }
     ensures IsBounded { IsBounded result }
@@ -95,9 +94,9 @@ fn assign_layer(
     let k = crate::rows::assign_range(bundle, properties, &mut t[a..e], count, from, to);
     if k < 129 {
         t[h] = k as u32;
-        return Stepped::Now(m);
+        return Ok(m);
     }
-    Stepped::Refused(TOO_MANY_NAMES)
+    Err(TOO_MANY_NAMES)
 }
 
 // Assigns the properties from..to to all m layers.
@@ -108,23 +107,17 @@ fn assign_all(
     m: usize,
     from: u32,
     to: u32,
-) -> Stepped
+) -> Result<usize, usize>
     requires { (m ≤ 32) × (length t.old ≡ 4323) }
     ensures t_after { told result t.new ≡ assign_all (name_at bundle.now properties.now) t.old m 0 m (places from (to - from)) }
     ensures IsBounded { IsBounded result }
 {
     let mut i = 0;
     while i < m {
-        match assign_layer(bundle, properties, t, m, i, from, to) {
-            Stepped::Refused(k) => {
-                return Stepped::Refused(k);
-            }
-            Stepped::Now(_) => {
-                i += 1;
-            }
-        }
+        assign_layer(bundle, properties, t, m, i, from, to)?;
+        i += 1;
     }
-    Stepped::Now(m)
+    Ok(m)
 }
 
 // What selector s, of layer j of m, assigns: to all layers, if it is of `*`.
@@ -138,7 +131,7 @@ fn touch(
     s: u32,
     from: u32,
     to: u32,
-) -> Stepped
+) -> Result<usize, usize>
     requires { (m ≤ 32) × (j ≤ 32) × (length t.old ≡ 4323) }
     ensures t_after { told result t.new ≡ touch_of (name_at bundle.now properties.now) (layer_in bundle.now selectors.now) t.old m j s (places from (to - from)) }
     ensures IsBounded { IsBounded result }
@@ -159,7 +152,7 @@ pub fn step(
     s: u32,
     from: u32,
     to: u32,
-) -> Stepped
+) -> Result<usize, usize>
     requires { (n ≤ 32) × (length t.old ≡ 4323) }
     ensures t_after { told result t.new ≡ step_of (name_at bundle.now properties.now) (layer_in bundle.now selectors.now) t.old n s (places from (to - from)) }
     ensures IsBounded { IsBounded result }
@@ -172,5 +165,5 @@ pub fn step(
         new_layer(bundle, selectors, t, n, s);
         return touch(bundle, selectors, properties, t, n + 1, n, s, from, to);
     }
-    Stepped::Refused(TOO_MANY_LAYERS)
+    Err(TOO_MANY_LAYERS)
 }

@@ -9,27 +9,13 @@ ghost use Rattle.walk.specs.Selectors.{layer_in, verdict_in};
 
 use base::refusal::{Refusal, TABLE_BROKEN, TAG_NUMBER};
 use base::{word_at, zero_words};
-use entity::{EntityRange, SingleEntity, single_entity};
+use entity::{EntityRange, single_entity};
 use matching::{Fit, matches};
 use valid::{Counts, is_sound};
 
 mod layers;
 pub mod names;
 mod rows;
-
-// A refusal's number, or the count of layers.
-#[derive(Clone, Copy)]
-pub enum Stepped {
-    Refused(usize),
-    Now(usize),
-}
-
-// The refusal, or how many layers there are.
-#[derive(Clone, Copy)]
-pub enum PropertyMaps {
-    NoMaps(Refusal),
-    Maps(usize),
-}
 
 // The property maps of an entity: how many layers there are, and the table of them, or why not, and a table of zeros.
 pub fn property_maps(
@@ -43,7 +29,7 @@ pub fn property_maps(
     zoom: u8,
     entity: &[u8],
     maps: &mut [u32; 4323],
-) -> PropertyMaps
+) -> Result<usize, Refusal>
     ensures maps_after { (result, maps.new) ≡ maps_of bundle.now rules.now selectors.now tests.now properties.now numbers.now n zoom entity.now }
     ensures few { few result }
 {
@@ -57,14 +43,14 @@ pub fn property_maps(
         bundle.len(),
     ) {
         zero_words(&mut maps[..]);
-        return PropertyMaps::NoMaps(Refusal::plain(TABLE_BROKEN));
+        return Err(Refusal::plain(TABLE_BROKEN));
     }
     match single_entity(entity) {
-        SingleEntity::BadEntity(r) => {
+        Err(r) => {
             zero_words(&mut maps[..]);
-            PropertyMaps::NoMaps(r)
+            Err(r)
         }
-        SingleEntity::OneEntity(e) => walk_entity(
+        Ok(e) => walk_entity(
             bundle, rules, selectors, tests, properties, numbers, n.rules, zoom, entity, e, false,
             0, maps,
         ),
@@ -86,13 +72,13 @@ pub fn walk_entity(
     multipolygons: bool,
     place: usize,
     maps: &mut [u32; 4323],
-) -> PropertyMaps
+) -> Result<usize, Refusal>
     ensures maps_after { (result, maps.new) ≡ walk_of bundle.now rules.now selectors.now tests.now properties.now numbers.now total zoom entity.now e multipolygons place }
     ensures few { few result }
 {
     zero_words(&mut maps[..]);
     if 16384 < total {
-        return PropertyMaps::NoMaps(Refusal::plain(TABLE_BROKEN));
+        return Err(Refusal::plain(TABLE_BROKEN));
     }
     let q = walk_rules(
         bundle,
@@ -121,17 +107,22 @@ pub fn layer_place(bundle: &[u8], selectors: &[u32], maps: &[u32], n: usize, nam
 }
 
 // What the end of a walk answers: a refusal leaves a table of zeros.
-fn finish_maps(q: Stepped, multipolygons: bool, place: usize, t: &mut [u32]) -> PropertyMaps
+fn finish_maps(
+    q: Result<usize, usize>,
+    multipolygons: bool,
+    place: usize,
+    t: &mut [u32],
+) -> Result<usize, Refusal>
     requires { (length t.old ≡ 4323) × IsBounded q }
     ensures t_after { (result, t.new) ≡ finish multipolygons place (told q t.old) }
     ensures few { few result }
 {
     match q {
-        Stepped::Refused(k) => {
+        Err(k) => {
             zero_words(t);
-            PropertyMaps::NoMaps(Refusal::of_entity(k, multipolygons, place))
+            Err(Refusal::of_entity(k, multipolygons, place))
         }
-        Stepped::Now(m) => PropertyMaps::Maps(m),
+        Ok(m) => Ok(m),
     }
 }
 
@@ -148,7 +139,7 @@ fn walk_rules(
     entity: &[u8],
     e: EntityRange,
     t: &mut [u32],
-) -> Stepped
+) -> Result<usize, usize>
     requires { (total ≤ 16384) × (length t.old ≡ 4323) }
     ensures t_after { told result t.new ≡ rules_of (name_at bundle.now properties.now) (layer_in bundle.now selectors.now) (verdict_in bundle.now selectors.now tests.now numbers.now zoom entity.now e) rules.now t.old 0 0 total }
     ensures IsBounded { IsBounded result }
@@ -156,19 +147,12 @@ fn walk_rules(
     let mut r = 0;
     let mut m = 0;
     while r < total {
-        match walk_rule(
+        m = walk_rule(
             bundle, rules, selectors, tests, properties, numbers, zoom, entity, e, t, m, r,
-        ) {
-            Stepped::Refused(k) => {
-                return Stepped::Refused(k);
-            }
-            Stepped::Now(k) => {
-                m = k;
-                r += 1;
-            }
-        }
+        )?;
+        r += 1;
     }
-    Stepped::Now(m)
+    Ok(m)
 }
 
 // One rule: its selectors in order.
@@ -185,7 +169,7 @@ fn walk_rule(
     t: &mut [u32],
     n: usize,
     r: usize,
-) -> Stepped
+) -> Result<usize, usize>
     requires { (n ≤ 32) × (r < 16384) × (length t.old ≡ 4323) }
     ensures t_after { told result t.new ≡ rule_of (name_at bundle.now properties.now) (layer_in bundle.now selectors.now) (verdict_in bundle.now selectors.now tests.now numbers.now zoom entity.now e) rules.now t.old n r }
     ensures IsBounded { IsBounded result }
@@ -197,19 +181,12 @@ fn walk_rule(
     let to = word_at(rules, at + 4);
     let mut m = n;
     while s < end {
-        match visit(
+        m = visit(
             bundle, selectors, tests, properties, numbers, zoom, entity, e, t, m, s, from, to,
-        ) {
-            Stepped::Refused(k) => {
-                return Stepped::Refused(k);
-            }
-            Stepped::Now(k) => {
-                m = k;
-                s += 1;
-            }
-        }
+        )?;
+        s += 1;
     }
-    Stepped::Now(m)
+    Ok(m)
 }
 
 // One selector, with the properties from..to of its rule.
@@ -227,7 +204,7 @@ fn visit(
     s: u32,
     from: u32,
     to: u32,
-) -> Stepped
+) -> Result<usize, usize>
     requires { (n ≤ 32) × (length t.old ≡ 4323) }
     ensures t_after { told result t.new ≡ hit_of (name_at bundle.now properties.now) (layer_in bundle.now selectors.now) (verdict_in bundle.now selectors.now tests.now numbers.now zoom entity.now e) t.old n s (places from (to - from)) }
     ensures IsBounded { IsBounded result }
@@ -235,8 +212,8 @@ fn visit(
     match matches(
         bundle, selectors, tests, numbers, zoom, entity, e, s as usize,
     ) {
-        Fit::Out => Stepped::Refused(TAG_NUMBER),
-        Fit::Misses => Stepped::Now(n),
+        Fit::Out => Err(TAG_NUMBER),
+        Fit::Misses => Ok(n),
         Fit::Fits => layers::step(bundle, selectors, properties, t, n, s, from, to),
     }
 }

@@ -2,10 +2,10 @@ use mathlib.Core.Path.{sym, ap}
 use Rattle.answers.specs.Answers.{count_of}
 use Rattle.answers.proofs.count_of.Goals as goal
 
-pub returns-in-NoStyles : goal.returns-in-NoStyles
+pub returns-in-Err : goal.returns-in-Err
 unfolding count_of
-returns-in-NoStyles c = sym (ap count_of c.in-NoStyles.is)
+returns-in-Err c = sym (ap count_of c.in-Err.is)
 
-pub returns-in-Styles : goal.returns-in-Styles
+pub returns-in-Ok : goal.returns-in-Ok
 unfolding count_of
-returns-in-Styles c = sym (ap count_of c.in-Styles.is)
+returns-in-Ok c = sym (ap count_of c.in-Ok.is)

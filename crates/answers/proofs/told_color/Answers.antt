@@ -2,10 +2,10 @@ use mathlib.Core.Path.{sym, ap}
 use Rattle.answers.specs.Answers.{told_color}
 use Rattle.answers.proofs.told_color.Goals as goal
 
-pub returns-in-Unknown : goal.returns-in-Unknown
+pub returns-in-None : goal.returns-in-None
 unfolding told_color
-returns-in-Unknown c = sym (ap told_color c.in-Unknown.is)
+returns-in-None c = sym (ap told_color c.in-None.is)
 
-pub returns-in-Known : goal.returns-in-Known
+pub returns-in-Some : goal.returns-in-Some
 unfolding told_color
-returns-in-Known c = sym (ap told_color c.in-Known.is)
+returns-in-Some c = sym (ap told_color c.in-Some.is)

@@ -2,10 +2,10 @@ use Rattle.answers.specs.Answers.{told_load}
 use mathlib.Core.Path.{sym, ap}
 use Rattle.answers.proofs.told_load.Goals as goal
 
-pub returns-in-NotLoaded : goal.returns-in-NotLoaded
+pub returns-in-Err : goal.returns-in-Err
 unfolding told_load
-returns-in-NotLoaded c = sym (ap told_load c.in-NotLoaded.is)
+returns-in-Err c = sym (ap told_load c.in-Err.is)
 
-pub returns-in-Sheet : goal.returns-in-Sheet
+pub returns-in-Ok : goal.returns-in-Ok
 unfolding told_load
-returns-in-Sheet c = sym (ap told_load c.in-Sheet.is)
+returns-in-Ok c = sym (ap told_load c.in-Ok.is)

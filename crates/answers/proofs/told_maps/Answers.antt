@@ -2,10 +2,10 @@ use mathlib.Core.Path.{sym, ap, ◌∙◌}
 use Rattle.answers.specs.Answers.{told_maps}
 use Rattle.answers.proofs.told_maps.Goals as goal
 
-pub returns-in-NoMaps : goal.returns-in-NoMaps
+pub returns-in-Err : goal.returns-in-Err
 unfolding told_maps
-returns-in-NoMaps c = c.refused.ensures ∙ sym (ap told_maps c.in-NoMaps.is)
+returns-in-Err c = c.refused.ensures ∙ sym (ap told_maps c.in-Err.is)
 
-pub returns-in-Maps : goal.returns-in-Maps
+pub returns-in-Ok : goal.returns-in-Ok
 unfolding told_maps
-returns-in-Maps c = c.counted.ensures ∙ sym (ap told_maps c.in-Maps.is)
+returns-in-Ok c = c.counted.ensures ∙ sym (ap told_maps c.in-Ok.is)

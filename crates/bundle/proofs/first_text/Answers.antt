@@ -1,13 +1,13 @@
 use mathlib.Core.Path.{refl}
 use Rattle.base.specs.Choice.{via}
 use Rattle.bundle.specs.Bundle.{first_at}
-use Rattle.group.specs.Elim.{Number-Read, Number-Unread}
 use Rattle.bundle.proofs.first_text.Goals as goal
+use Rattle.base.specs.Option.{option_none, option_some}
 
-pub returns-in-Unread : goal.returns-in-Unread
+pub returns-in-None : goal.returns-in-None
 unfolding first_at
-returns-in-Unread c = Number-Unread _ _ _ (via c.number_at.ensures c.in-Unread.is) refl
+returns-in-None c = option_none _ _ _ (via c.number_at.ensures c.in-None.is) refl
 
-pub returns-in-Read : goal.returns-in-Read
+pub returns-in-Some : goal.returns-in-Some
 unfolding first_at
-returns-in-Read c = Number-Read _ _ _ (via c.number_at.ensures c.in-Read.is) refl
+returns-in-Some c = option_some _ _ _ (via c.number_at.ensures c.in-Some.is) refl

@@ -1,3 +1,4 @@
+-- What the loop of good_names keeps: the names that are left are good just where all are.
 use Prim.Native.Nat.{◌-◌}
 use mathlib.Core.List.{map}
 use mathlib.Core.Path.{◌≡◌}
@@ -6,8 +7,5 @@ use Rattle.bundle.specs.Bundle.{good_names}
 use Rattle.group.specs.Pair.{entries_at}
 use Rattle.bundle.proofs.good_names.Given as goal
 
-abbrev pub invariant-loop-left : goal.invariant-loop-left
-invariant-loop-left l = good_names (map key_of (entries_at l.left l.s l.place)) ≡ good_names (map key_of (entries_at l.count l.s l.at))
-
-abbrev pub decreases-loop-left : goal.decreases-loop-left
-decreases-loop-left l = l.left
+abbrev pub invariant-loop-k : goal.invariant-loop-k
+invariant-loop-k l = good_names (map key_of (entries_at (l.count - l.k) l.s l.place)) ≡ good_names (map key_of (entries_at l.count l.s l.at))

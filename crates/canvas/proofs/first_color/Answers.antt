@@ -15,15 +15,15 @@ pub loop-p-preserved : goal.loop-p-preserved
 unfolding or_color
 loop-p-preserved c = let a = c.args in
     colors_step a.bundle.now a.properties.now a.numbers.now a.name.now a.to c.loop-p.p
-    c.loop-p-test.true _ c.color_at.ensures _ c.in-Unknown.is
+    c.loop-p-test.true _ c.color_at.ensures _ c.in-None.is
     ∙ c.loop-p.invariant
 
-pub returns-in-Known : goal.returns-in-Known
+pub returns-in-Some : goal.returns-in-Some
 unfolding or_color
-returns-in-Known c = let a = c.args in
+returns-in-Some c = let a = c.args in
     colors_step a.bundle.now a.properties.now a.numbers.now a.name.now a.to
     c.loop-p.p
-    c.loop-p-test.true _ c.color_at.ensures _ c.in-Known.is
+    c.loop-p-test.true _ c.color_at.ensures _ c.in-Some.is
     ∙ c.loop-p.invariant
 
 pub returns : goal.returns

@@ -20,15 +20,15 @@ unfolding or_color
 loop-r-preserved c = let a = c.args in
     rules_step a.bundle.now a.rules.now a.selectors.now a.properties.now a.numbers.now a.name.now a.total
     c.loop-r.r c.loop-r-test.true _ _
-    c.rule_color.ensures c.in-Unknown.is
+    c.rule_color.ensures c.in-None.is
     ∙ c.loop-r.invariant
 
-pub returns-in-Known : goal.returns-in-Known
+pub returns-in-Some : goal.returns-in-Some
 unfolding or_color
-returns-in-Known c = let a = c.args in
+returns-in-Some c = let a = c.args in
     rules_step a.bundle.now a.rules.now a.selectors.now a.properties.now a.numbers.now a.name.now a.total
     c.loop-r.r c.loop-r-test.true _ _
-    c.rule_color.ensures c.in-Known.is
+    c.rule_color.ensures c.in-Some.is
     ∙ c.loop-r.invariant
 
 pub returns : goal.returns

@@ -1,12 +1,12 @@
-use mathlib.Core.Path.{refl, sym}
-use Rattle.base.specs.Choice.{if_false, if_true}
+use Rattle.std.proofs.Common.{arith}
+use Rattle.base.specs.Choice.{pick}
 use Rattle.cursor.specs.Class.{can_continue_identifier}
 use Rattle.cursor.proofs.can_continue_identifier.Goals as goal
 
 pub returns-then-in_span : goal.returns-then-in_span
-unfolding can_continue_identifier
-returns-then-in_span c = rw (sym c.in_span.ensures) (if_true _ _ _ c.if-in_span.true refl)
+unfolding can_continue_identifier pick
+returns-then-in_span c = grind arith
 
-pub returns : goal.returns
-unfolding can_continue_identifier
-returns c = rw (sym c.in_span.ensures) (if_false _ _ _ c.if-in_span.false (c.can_start_identifier.ensures))
+pub returns-else-in_span : goal.returns-else-in_span
+unfolding can_continue_identifier pick
+returns-else-in_span c = grind arith

@@ -1,17 +1,13 @@
-use mathlib.Core.Path.{refl, sym}
-use borrow.Author.Tests.{eq-eqb, ne_eqb}
-use Rattle.base.specs.Choice.{if_false, if_true}
+use Rattle.std.proofs.Common.{arith}
+use Rattle.cursor.proofs.can_start_identifier.Goals.{then-k-eq95, else-k-eq95}
+use Rattle.base.specs.Choice.{pick}
 use Rattle.cursor.specs.Class.{can_start_identifier}
 use Rattle.cursor.proofs.can_start_identifier.Goals as goal
 
-pub returns-then-k-eq95 : goal.returns-then-k-eq95
-unfolding can_start_identifier
-returns-then-k-eq95 c = if_true _ _ _ (eq-eqb _ _ c.if-k-eq95.true) refl
-
 pub returns-then-in_span : goal.returns-then-in_span
-unfolding can_start_identifier
-returns-then-in_span c = if_false _ _ _ (ne_eqb _ _ c.if-k-eq95.false) (rw (sym c.in_span.ensures) (if_true _ _ _ c.if-in_span.true refl))
+unfolding can_start_identifier pick
+returns-then-in_span c = elim c.if-k-eq95.branch [ then-k-eq95 w ↦ grind arith | else-k-eq95 w ↦ grind arith ]
 
-pub returns : goal.returns
-unfolding can_start_identifier
-returns c = if_false _ _ _ (ne_eqb _ _ c.if-k-eq95.false) (rw (sym c.in_span.ensures) (if_false _ _ _ c.if-in_span.false (c.in_span-2.ensures)))
+pub returns-else-in_span : goal.returns-else-in_span
+unfolding can_start_identifier pick
+returns-else-in_span c = elim c.if-k-eq95.branch [ then-k-eq95 w ↦ grind arith | else-k-eq95 w ↦ grind arith ]

@@ -8,6 +8,6 @@ pub returns-then-v-radix : goal.returns-then-v-radix
 unfolding to_digit
 returns-then-v-radix c = rw (sym c.digit_value-v.ensures) (if_true _ _ _ (lt-ltb _ _ c.if-v-radix.true) refl)
 
-pub returns : goal.returns
+pub returns-else-v-radix : goal.returns-else-v-radix
 unfolding to_digit
-returns c = rw (sym c.digit_value-v.ensures) (if_false _ _ _ (le-ltb _ _ c.if-v-radix.false) refl)
+returns-else-v-radix c = rw (sym c.digit_value-v.ensures) (if_false _ _ _ (le-ltb _ _ c.if-v-radix.false) refl)

@@ -1,7 +1,10 @@
-use mathlib.Core.Path.{refl, subst}
+use mathlib.Core.Path.{refl, ◌∙◌, subst}
 use native.Mathlib.Omega.{arith}
 use lib.ListN.{length}
 use borrow.Author.Rules.{rules}
+use Rattle.std.specs.Prelude.{ℕ, Result}
+use Rattle.base.specs.declared.refusal.Refusal.{Refusal}
+use Rattle.base.proofs.Options.{handed_on}
 use Rattle.drawing.specs.Gather.{IsBounded}
 use Rattle.drawing.proofs.ListLaws.{made_none, made_length, room_bound, room_fits}
 use Rattle.drawing.proofs.GatherLaws.{told_stopped, told_now}
@@ -23,9 +26,9 @@ returns-then-not-is_sound c = let a =
 pub gather-requires : goal.gather-requires
 gather-requires c = (omega arith, room_bound _ _ c.room_of-room.ensures, refl, refl, refl)
 
-pub gather-requires-in-Now : goal.gather-requires-in-Now
-gather-requires-in-Now c = let r = c.room_of-room in (
-  subst (IsBounded r.result) c.in-Now.is
+pub gather-requires-2 : goal.gather-requires-2
+gather-requires-2 c = let r = c.room_of-room in (
+  subst (IsBounded r.result) c.in_ok-w.was
       c.gather.ensures.IsBounded,
   room_bound _ _ r.ensures,
   c.gather.auto.layers,
@@ -40,22 +43,23 @@ write_list-requires c = let z =
     c.room_of-room in
     let f =
     room_fits _ _ _ r.ensures
-    (subst (IsBounded r.result) c.in-Now-gather.is
-    c.gather-in-Now.ensures.IsBounded)
+    (subst (IsBounded r.result) c.in_ok-k.was
+    c.gather-2.ensures.IsBounded)
     in (
       gather_grows _ _ _ _ _ _ _ _ _ _ _ _ _ _ _ _ _ _ refl
           (told_now _ _ _ _ _ _
-          c.gather-in-Now.ensures.words_after
-          c.in-Now-gather.is) (made_length _ _) (made_length _ _),
+          c.gather-2.ensures.words_after
+          c.in_ok-k.was) (made_length _ _) (made_length _ _),
       f.0,
       f.1,
       zeros _ _ z.ensures z.auto.t,
     )
 
-pub returns-in-Stopped : goal.returns-in-Stopped
-returns-in-Stopped c = let a =
+pub returns-in_err-w : goal.returns-in_err-w
+returns-in_err-w c = let a =
     c.args in
-    ways_refused a.bundle.now a.rules.now a.selectors.now a.tests.now a.properties.now
+    ap (λ (q : Result ℕ Refusal). (q, c.zero_words.new.t)) (handed_on _ c.from_residual.ensures)
+    ∙ ways_refused a.bundle.now a.rules.now a.selectors.now a.tests.now a.properties.now
     a.numbers.now a.n a.zoom
     a.settings (length a.list.now)
     _
@@ -67,13 +71,14 @@ returns-in-Stopped c = let a =
     _ c.room_of-room.ensures _ (made_none _)
     a.ways.now a.multipolygons.now _ refl _
     (told_stopped _ _ _ _ _ _
-    c.gather.ensures.words_after c.in-Stopped.is) _
+    c.gather.ensures.words_after c.in_err-w.was) _
     c.zero_words.ensures
 
-pub returns-in-Stopped-gather : goal.returns-in-Stopped-gather
-returns-in-Stopped-gather c = let a =
+pub returns-in_err-k : goal.returns-in_err-k
+returns-in_err-k c = let a =
     c.args in
-    areas_refused a.bundle.now a.rules.now a.selectors.now a.tests.now a.properties.now
+    ap (λ (q : Result ℕ Refusal). (q, c.zero_words.new.t)) (handed_on _ c.from_residual-in_err-k.ensures)
+    ∙ areas_refused a.bundle.now a.rules.now a.selectors.now a.tests.now a.properties.now
     a.numbers.now a.n a.zoom
     a.settings (length a.list.now)
     _
@@ -87,14 +92,14 @@ returns-in-Stopped-gather c = let a =
     a.ways.now a.multipolygons.now _ refl _
     (told_now _ _ _ _ _ _
     c.gather.ensures.words_after
-    c.in-Now.is)
+    c.in_ok-w.was)
     _ refl _
-    (told_stopped _ _ _ _ _ _ c.gather-in-Now.ensures.words_after c.in-Stopped-gather.is)
+    (told_stopped _ _ _ _ _ _ c.gather-2.ensures.words_after c.in_err-k.was)
     _
     c.zero_words.ensures
 
-pub returns-in-Now-gather : goal.returns-in-Now-gather
-returns-in-Now-gather c = let a =
+pub returns : goal.returns
+returns c = let a =
     c.args in
     areas_listed a.bundle.now a.rules.now a.selectors.now a.tests.now a.properties.now
     a.numbers.now a.n a.zoom
@@ -110,6 +115,6 @@ returns-in-Now-gather c = let a =
     a.ways.now a.multipolygons.now _ refl _
     (told_now _ _ _ _ _ _
     c.gather.ensures.words_after
-    c.in-Now.is) _ refl _
-    (told_now _ _ _ _ _ _ c.gather-in-Now.ensures.words_after c.in-Now-gather.is)
+    c.in_ok-w.was) _ refl _
+    (told_now _ _ _ _ _ _ c.gather-2.ensures.words_after c.in_ok-k.was)
     _ _ (made_length _ _) (made_length _ _) _ c.write_list.ensures

@@ -1,7 +1,10 @@
-use mathlib.Core.Path.{refl, subst}
+use mathlib.Core.Path.{refl, ◌∙◌, subst}
 use native.Mathlib.Omega.{arith}
 use lib.ListN.{length}
 use borrow.Author.Rules.{rules}
+use Rattle.std.specs.Prelude.{ℕ, Result}
+use Rattle.base.specs.declared.refusal.Refusal.{Refusal}
+use Rattle.base.proofs.Options.{handed_on}
 use Rattle.drawing.specs.Gather.{IsBounded}
 use Rattle.drawing.proofs.ListLaws.{made_none, made_length, room_bound, room_fits}
 use Rattle.drawing.proofs.GatherLaws.{told_stopped, told_now}
@@ -28,15 +31,16 @@ write_list-requires c = let z =
     let r = c.room_of-room in
     let f =
     room_fits _ _ _ r.ensures
-    (subst (IsBounded r.result) c.in-Now.is
+    (subst (IsBounded r.result) c.in_ok-k.was
     c.gather.ensures.IsBounded)
     in
     (omega arith, f.0, f.1, zeros _ _ z.ensures z.auto.t)
 
-pub returns-in-Stopped : goal.returns-in-Stopped
-returns-in-Stopped c = let a =
+pub returns-in_err-k : goal.returns-in_err-k
+returns-in_err-k c = let a =
     c.args in
-    nodes_refused a.bundle.now a.rules.now a.selectors.now a.tests.now a.properties.now
+    ap (λ (q : Result ℕ Refusal). (q, c.zero_words.new.t)) (handed_on _ c.from_residual.ensures)
+    ∙ nodes_refused a.bundle.now a.rules.now a.selectors.now a.tests.now a.properties.now
     a.numbers.now a.n a.zoom
     a.settings (length a.list.now)
     _
@@ -48,11 +52,11 @@ returns-in-Stopped c = let a =
     _ c.room_of-room.ensures _ (made_none _)
     a.nodes.now _ refl _
     (told_stopped _ _ _ _ _ _
-    c.gather.ensures.words_after c.in-Stopped.is) _
+    c.gather.ensures.words_after c.in_err-k.was) _
     c.zero_words.ensures
 
-pub returns-in-Now : goal.returns-in-Now
-returns-in-Now c = let a =
+pub returns : goal.returns
+returns c = let a =
     c.args in
     nodes_listed a.bundle.now a.rules.now a.selectors.now a.tests.now a.properties.now
     a.numbers.now a.n a.zoom
@@ -68,5 +72,5 @@ returns-in-Now c = let a =
     a.nodes.now _ refl _
     (told_now _ _ _ _ _ _
     c.gather.ensures.words_after
-    c.in-Now.is) _ (made_length _ _) _
+    c.in_ok-k.was) _ (made_length _ _) _
     c.write_list.ensures

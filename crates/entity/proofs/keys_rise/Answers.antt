@@ -7,8 +7,8 @@ use Rattle.entity.proofs.keys_rise.Goals as goal
 pub returns-then-count-eq0 : goal.returns-then-count-eq0
 returns-then-count-eq0 c = rising_end _ (entries_end c.args.count c.args.s.now c.args.at (omega arith))
 
-pub returns-in-Broken : goal.returns-in-Broken
-returns-in-Broken c = rising_end _ (entries_broken c.args.count c.args.s.now c.args.at (omega arith) (via c.pair_at.ensures c.in-Broken.is))
+pub returns-in_default : goal.returns-in_default
+returns-in_default c = rising_end _ (entries_broken c.args.count c.args.s.now c.args.at (omega arith) (via c.pair_at.ensures c.in_default.is))
 
-pub returns-in-Two : goal.returns-in-Two
-returns-in-Two c = rising_first _ _ _ (entries_two c.args.count c.args.s.now c.args.at _ _ (omega arith) (via c.pair_at.ensures c.in-Two.is)) _ c.rise_from.ensures
+pub returns : goal.returns
+returns c = rising_first _ _ _ (entries_two c.args.count c.args.s.now c.args.at _ _ (omega arith) (via c.pair_at.ensures c.in-Some.is)) _ c.rise_from.ensures

@@ -1,14 +1,14 @@
 use mathlib.Core.Path.{refl, ap}
 use borrow.Author.Tests.{le-leb, lt-leb, lt-ltb, le-ltb}
 use Rattle.base.specs.Choice.{via, if_true, if_false}
-use Rattle.entity.specs.Elim.{EntityAt-NoEntity, EntityAt-Whole}
 use Rattle.entity.specs.Layout.{next_of, tags_of}
-use Rattle.entity.specs.declared.NextEntity.TheVariants.{BadNext}
 use Rattle.entity.proofs.next_entity.Goals as goal
+use Rattle.base.specs.Option.{option_none, option_some}
+use Rattle.std.specs.Prelude.{Err}
 
 pub returns-then-s-gt1048576 : goal.returns-then-s-gt1048576
 unfolding next_of tags_of
-returns-then-s-gt1048576 c = if_true _ _ _ (lt-ltb _ _ c.if-s-gt1048576.true) (ap BadNext c.of_entity.ensures)
+returns-then-s-gt1048576 c = if_true _ _ _ (lt-ltb _ _ c.if-s-gt1048576.true) (ap Err c.of_entity.ensures)
 
 pub returns-then-s-at : goal.returns-then-s-at
 unfolding next_of tags_of
@@ -16,12 +16,12 @@ returns-then-s-at c = if_false _ _ _ (le-ltb _ _ c.if-s-gt1048576.false) (if_tru
 
 pub returns-then-pairs_utf8 : goal.returns-then-pairs_utf8
 unfolding next_of tags_of
-returns-then-pairs_utf8 c = if_false _ _ _ (le-ltb _ _ c.if-s-gt1048576.false) (if_false _ _ _ (lt-leb _ _ c.if-s-at.false) (EntityAt-Whole _ _ _ (via c.entity_at.ensures c.in-Whole.is) (if_true _ _ _ (via c.pairs_utf8.ensures c.if-pairs_utf8.true) refl)))
+returns-then-pairs_utf8 c = if_false _ _ _ (le-ltb _ _ c.if-s-gt1048576.false) (if_false _ _ _ (lt-leb _ _ c.if-s-at.false) (option_some _ _ _ (via c.entity_at.ensures c.in-Some.is) (if_true _ _ _ (via c.pairs_utf8.ensures c.if-pairs_utf8.true) refl)))
 
-pub returns-in-NoEntity : goal.returns-in-NoEntity
+pub returns-in_default : goal.returns-in_default
 unfolding next_of tags_of
-returns-in-NoEntity c = if_false _ _ _ (le-ltb _ _ c.if-s-gt1048576.false) (if_false _ _ _ (lt-leb _ _ c.if-s-at.false) (EntityAt-NoEntity _ _ _ (via c.entity_at.ensures c.in-NoEntity.is) (ap BadNext c.of_entity-in-NoEntity.ensures)))
+returns-in_default c = if_false _ _ _ (le-ltb _ _ c.if-s-gt1048576.false) (if_false _ _ _ (lt-leb _ _ c.if-s-at.false) (option_none _ _ _ (via c.entity_at.ensures c.in_default.is) (ap Err c.of_entity-in_default.ensures)))
 
-pub returns-else-pairs_utf8 : goal.returns-else-pairs_utf8
+pub returns : goal.returns
 unfolding next_of tags_of
-returns-else-pairs_utf8 c = if_false _ _ _ (le-ltb _ _ c.if-s-gt1048576.false) (if_false _ _ _ (lt-leb _ _ c.if-s-at.false) (EntityAt-Whole _ _ _ (via c.entity_at.ensures c.in-Whole.is) (if_false _ _ _ (via c.pairs_utf8.ensures c.if-pairs_utf8.false) (ap BadNext c.of_entity-in-Whole.ensures))))
+returns c = if_false _ _ _ (le-ltb _ _ c.if-s-gt1048576.false) (if_false _ _ _ (lt-leb _ _ c.if-s-at.false) (option_some _ _ _ (via c.entity_at.ensures c.in-Some.is) (if_false _ _ _ (via c.pairs_utf8.ensures c.if-pairs_utf8.false) (ap Err c.of_entity-2.ensures))))

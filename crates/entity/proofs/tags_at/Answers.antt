@@ -1,17 +1,18 @@
 use mathlib.Core.Path.{refl}
 use Rattle.base.specs.Choice.{via}
 use Rattle.entity.specs.Layout.{tags_at}
-use Rattle.group.specs.Elim.{Number-Read, Number-Unread, Place-At, Place-Nowhere}
 use Rattle.entity.proofs.tags_at.Goals as goal
+use Rattle.base.specs.Option.{option_none, option_some}
+use Rattle.std.proofs.Common.{◌∙◌}
 
-pub returns-in-Unread : goal.returns-in-Unread
+pub returns-in_err-n : goal.returns-in_err-n
 unfolding tags_at
-returns-in-Unread c = Number-Unread _ _ _ (via c.number_at.ensures c.in-Unread.is) refl
+returns-in_err-n c = option_none _ _ _ (via c.number_at.ensures c.in_err-n.was) c.from_residual.ensures
 
-pub returns-in-Nowhere : goal.returns-in-Nowhere
+pub returns-in_err-end : goal.returns-in_err-end
 unfolding tags_at
-returns-in-Nowhere c = Number-Read _ _ _ (via c.number_at.ensures c.in-Read.is) (Place-Nowhere _ _ _ (via c.skip_pairs.ensures c.in-Nowhere.is) refl)
+returns-in_err-end c = c.from_residual-in_err-end.ensures ∙ option_some _ _ _ (via c.number_at.ensures c.in_ok-n.was) (option_none _ _ _ (via c.skip_pairs.ensures c.in_err-end.was) refl)
 
-pub returns-in-At : goal.returns-in-At
+pub returns : goal.returns
 unfolding tags_at
-returns-in-At c = Number-Read _ _ _ (via c.number_at.ensures c.in-Read.is) (Place-At _ _ _ (via c.skip_pairs.ensures c.in-At.is) (c.closed.ensures))
+returns c = option_some _ _ _ (via c.number_at.ensures c.in_ok-n.was) (option_some _ _ _ (via c.skip_pairs.ensures c.in_ok-end.was) (c.closed.ensures))

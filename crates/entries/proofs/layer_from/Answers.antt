@@ -2,5 +2,5 @@ use mathlib.Core.Path.{◌∙◌, sym, ap}
 use Rattle.entries.specs.Words.{layer_from}
 use Rattle.entries.proofs.layer_from.Goals as goal
 
-pub returns-in-Named : goal.returns-in-Named
-returns-in-Named c = c.low.ensures ∙ sym (ap layer_from c.in-Named.is)
+pub returns-in-Some : goal.returns-in-Some
+returns-in-Some c = c.low.ensures ∙ sym (ap layer_from c.in-Some.is)

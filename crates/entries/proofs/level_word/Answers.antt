@@ -1,4 +1,4 @@
 use Rattle.entries.proofs.level_word.Goals as goal
 
-pub returns-in-Level : goal.returns-in-Level
-returns-in-Level c = simp c.in-Level.is
+pub returns-in-Some : goal.returns-in-Some
+returns-in-Some c = simp c.in-Some.is

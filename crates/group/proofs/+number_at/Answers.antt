@@ -30,19 +30,19 @@ first_byte-requires t c = number_most
     c.args.s.now
     (c.args.at + 1)
     (c.args.most / 128) _ _
-    (via c.number_at.ensures c.in-Read.is)
+    (via c.number_at.ensures c.in_ok-v.was)
 
-pub returns-in-Unread : goal.returns-in-Unread
-returns-in-Unread t c = number_stop
+pub returns-in_err-v : goal.returns-in_err-v
+returns-in_err-v t c = c.from_residual.ensures ∙ number_stop
     c.args.s.now
     c.args.at
     c.args.most
     c.if-s-at.false
     c.if-b-lt128.false c.number_at.result
-    c.number_at.ensures c.in-Unread.is
+    c.number_at.ensures c.in_err-v.was
 
-pub returns-in-Read : goal.returns-in-Read
-returns-in-Read t c = c.first_byte.ensures
+pub returns : goal.returns
+returns t c = c.first_byte.ensures
     ∙ number_more
     c.args.s.now
     c.args.at
@@ -50,4 +50,4 @@ returns-in-Read t c = c.first_byte.ensures
     c.if-s-at.false
     c.if-b-lt128.false
     c.number_at.result _ _
-    c.number_at.ensures c.in-Read.is
+    c.number_at.ensures c.in_ok-v.was

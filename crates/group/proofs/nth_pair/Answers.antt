@@ -6,8 +6,8 @@ use Rattle.group.proofs.nth_pair.Goals as goal
 pub returns-then-count-k : goal.returns-then-count-k
 returns-then-count-k c = nth_past c.args.count c.args.s.now c.args.at c.args.k c.if-count-k.true
 
-pub returns-in-Nowhere : goal.returns-in-Nowhere
-returns-in-Nowhere c = nth_nowhere c.args.count c.args.s.now c.args.at c.args.k (via c.skip_pairs.ensures c.in-Nowhere.is)
+pub returns-in_err-place : goal.returns-in_err-place
+returns-in_err-place c = c.from_residual.ensures ∙ nth_nowhere c.args.count c.args.s.now c.args.at c.args.k (via c.skip_pairs.ensures c.in_err-place.was)
 
-pub returns-in-At : goal.returns-in-At
-returns-in-At c = c.pair_at.ensures ∙ nth_at c.args.count c.args.s.now c.args.at c.args.k _ c.if-count-k.false (via c.skip_pairs.ensures c.in-At.is)
+pub returns : goal.returns
+returns c = c.pair_at.ensures ∙ nth_at c.args.count c.args.s.now c.args.at c.args.k _ c.if-count-k.false (via c.skip_pairs.ensures c.in_ok-place.was)

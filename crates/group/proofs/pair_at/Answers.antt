@@ -1,17 +1,18 @@
 use mathlib.Core.Path.{refl}
 use Rattle.base.specs.Choice.{via}
-use Rattle.group.specs.Elim.{Part-Cut, Part-Found}
 use Rattle.group.specs.Pair.{pair_at}
 use Rattle.group.proofs.pair_at.Goals as goal
+use Rattle.base.specs.Option.{option_none, option_some}
+use Rattle.std.proofs.Common.{◌∙◌}
 
-pub returns-in-Cut : goal.returns-in-Cut
+pub returns-in_err-a : goal.returns-in_err-a
 unfolding pair_at
-returns-in-Cut c = Part-Cut _ _ _ (via c.part_at.ensures c.in-Cut.is) refl
+returns-in_err-a c = option_none _ _ _ (via c.part_at.ensures c.in_err-a.was) c.from_residual.ensures
 
-pub returns-in-Cut-part_at : goal.returns-in-Cut-part_at
+pub returns-in_err-b : goal.returns-in_err-b
 unfolding pair_at
-returns-in-Cut-part_at c = Part-Found _ _ _ (via c.part_at.ensures c.in-Found.is) (Part-Cut _ _ _ (via c.part_at-in-Found.ensures c.in-Cut-part_at.is) refl)
+returns-in_err-b c = c.from_residual-in_err-b.ensures ∙ option_some _ _ _ (via c.part_at.ensures c.in_ok-a.was) (option_none _ _ _ (via c.part_at-2.ensures c.in_err-b.was) refl)
 
-pub returns-in-Found-part_at : goal.returns-in-Found-part_at
+pub returns : goal.returns
 unfolding pair_at
-returns-in-Found-part_at c = Part-Found _ _ _ (via c.part_at.ensures c.in-Found.is) (Part-Found _ _ _ (via c.part_at-in-Found.ensures c.in-Found-part_at.is) refl)
+returns c = option_some _ _ _ (via c.part_at.ensures c.in_ok-a.was) (option_some _ _ _ (via c.part_at-2.ensures c.in_ok-b.was) refl)

@@ -8,13 +8,13 @@ use Prim.Native.Nat.{◌-◌}
 use Rattle.keep.proofs.find_color.Goals as goal
 
 pub loop-i-init : goal.loop-i-init
-loop-i-init c = (omega arith, rw sub-zero)
+loop-i-init c = rw sub-zero
 
 pub returns-then-has_name : goal.returns-then-has_name
-returns-then-has_name c = place_here _ _ _ _ _ c.loop-i-test.true (via c.has_name.ensures c.if-has_name.true) ∙ c.loop-i.invariant.1 ∙ ap (λ w. place_from c.args.bundle.now w c.args.colors.now 0 c.args.n) c.part-wanted.ensures
+returns-then-has_name c = place_here _ _ _ _ _ c.loop-i-test.true (via c.has_name.ensures c.if-has_name.true) ∙ c.loop-i.invariant ∙ ap (λ w. place_from c.args.bundle.now w c.args.colors.now 0 c.args.n) c.part-wanted.ensures
 
 pub loop-i-preserved : goal.loop-i-preserved
-loop-i-preserved c = (omega arith, place_further _ _ _ _ _ c.loop-i-test.true (via c.has_name.ensures c.if-has_name.false) ∙ c.loop-i.invariant.1)
+loop-i-preserved c = place_further _ _ _ _ _ c.loop-i-test.true (via c.has_name.ensures c.if-has_name.false) ∙ c.loop-i.invariant
 
 pub returns : goal.returns
-returns c = place_none _ _ _ _ _ c.loop-i-test.false ∙ c.loop-i.invariant.1 ∙ ap (λ w. place_from c.args.bundle.now w c.args.colors.now 0 c.args.n) c.part-wanted.ensures
+returns c = place_none _ _ _ _ _ (omega arith) ∙ c.loop-i.invariant ∙ ap (λ w. place_from c.args.bundle.now w c.args.colors.now 0 c.args.n) c.part-wanted.ensures

@@ -1,13 +1,13 @@
 use Rattle.keep.proofs.KeepLaws.{stored_same}
 use Rattle.keep.specs.Lent.{keep_color_of}
-use Rattle.group.specs.Elim.{Place-Nowhere, Place-At}
 use Rattle.base.specs.Choice.{via}
 use Rattle.keep.proofs.keep_color.Goals as goal
+use Rattle.base.specs.Option.{option_none, option_some}
 
-pub returns-in-Nowhere : goal.returns-in-Nowhere
+pub returns-in-None : goal.returns-in-None
 unfolding keep_color_of
-returns-in-Nowhere c = Place-Nowhere _ _ _ (via c.find_color.ensures c.in-Nowhere.is) c.add_color.ensures
+returns-in-None c = option_none _ _ _ (via c.find_color.ensures c.in-None.is) c.add_color.ensures
 
-pub returns-in-At : goal.returns-in-At
+pub returns-in-Some : goal.returns-in-Some
 unfolding keep_color_of
-returns-in-At c = Place-At _ _ _ (via c.find_color.ensures c.in-At.is) (stored_same _ _ _ c.recolor.ensures)
+returns-in-Some c = option_some _ _ _ (via c.find_color.ensures c.in-Some.is) (stored_same _ _ _ c.recolor.ensures)

@@ -3,10 +3,10 @@ use Rattle.keep.specs.Lent.{keep_property_of}
 use Rattle.base.specs.Choice.{via_with}
 use Rattle.keep.proofs.keep_property.Goals as goal
 
-pub returns-in-Full : goal.returns-in-Full
+pub returns-in_err-m : goal.returns-in_err-m
 unfolding keep_property_of
-returns-in-Full c = kept_none _ _ _ _ _ (via_with c.put_value.ensures c.in-Full.is)
+returns-in_err-m c = rw c.from_residual.ensures (kept_none _ _ _ _ _ (via_with c.put_value.ensures c.in_err-m.was))
 
-pub returns-in-Next : goal.returns-in-Next
+pub returns : goal.returns
 unfolding keep_property_of
-returns-in-Next c = kept_one _ _ _ _ _ (via_with c.put_value.ensures c.in-Next.is)
+returns c = kept_one _ _ _ _ _ (via_with c.put_value.ensures c.in_ok-m.was)

@@ -1,9 +1,11 @@
-use Rattle.parser.proofs.LoadLaws.{bad_read, texts_read}
+-- A bundle that is refused is not read; of one that is sound the first text is parsed.
+use Rattle.base.proofs.Options.{handed_on}
 use Rattle.base.specs.Choice.{via}
+use Rattle.parser.proofs.LoadLaws.{bad_read, texts_read}
 use Rattle.parser.proofs.read_bundle.Goals as goal
 
-pub returns-in-BadBundle : goal.returns-in-BadBundle
-returns-in-BadBundle c = bad_read _ _ _ (via c.check_bundle.ensures c.in-BadBundle.is)
+pub returns-in_err-check_bundle : goal.returns-in_err-check_bundle
+returns-in_err-check_bundle c = rw (handed_on _ c.from_residual.ensures) (bad_read _ _ _ (via c.check_bundle.ensures c.in_err-check_bundle.was))
 
-pub returns-in-Texts : goal.returns-in-Texts
-returns-in-Texts c = texts_read _ _ _ _ _ _ _ _ _ _ _ (via c.check_bundle.ensures c.in-Texts.is) c.first_text.ensures c.none_yet.ensures c.parse.ensures
+pub returns : goal.returns
+returns c = texts_read _ _ _ _ _ _ _ _ _ _ _ (via c.check_bundle.ensures c.in_ok-check_bundle.was) c.first_text.ensures c.none_yet.ensures c.parse.ensures

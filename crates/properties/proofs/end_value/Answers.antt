@@ -4,9 +4,10 @@ use Rattle.base.specs.Choice.{via}
 use Rattle.keep.proofs.Laws.{another, beyond}
 use Rattle.properties.specs.Answers.{Values, bad_value, good_value}
 use Rattle.properties.proofs.end_value.Goals as goal
+use Rattle.base.proofs.Options.{handed_on}
 
-pub returns-in-Another : goal.returns-in-Another
-returns-in-Another c = λ v e τ. another (Values _ _ _ _ _) _ _ _ _ _ _ (via c.expect_semicolon.ensures c.in-Another.is) (bad_value refl)
+pub returns-in_err-d : goal.returns-in_err-d
+returns-in_err-d c = rw (handed_on _ c.from_residual.ensures) (λ v e τ. another (Values _ _ _ _ _) _ _ _ _ _ _ (via c.expect_semicolon.ensures c.in_err-d.was) (bad_value refl))
 
-pub returns-in-Beyond : goal.returns-in-Beyond
-returns-in-Beyond c = λ v e τ. beyond (Values _ _ _ _ _) _ _ _ _ _ _ (via c.expect_semicolon.ensures c.in-Beyond.is) (λ m1. good_value v _ (omega arith) e)
+pub returns : goal.returns
+returns c = λ v e τ. beyond (Values _ _ _ _ _) _ _ _ _ _ _ (via c.expect_semicolon.ensures c.in_ok-d.was) (λ m1. good_value v _ (omega arith) e)

@@ -2,7 +2,7 @@ use mathlib.Core.Path.{refl}
 use native.Mathlib.Omega.{arith}
 use mathlib.Core.List.{[]}
 use Rattle.keep.proofs.Laws.{widen}
-use Rattle.properties.proofs.ValueLaws.{after_reads, head_none, head_last, head_next, lead_stop, lead_on}
+use Rattle.properties.proofs.ValueLaws.{after_reads, next_none, next_end, next_one, lead_stop, lead_on}
 use Rattle.keep.specs.Answers.{Reads, refuses, done}
 use Rattle.keep.specs.Lent.{lent}
 use Prim.Native.Nat.{suc, ◌<◌, ◌≤◌}
@@ -11,25 +11,26 @@ use Rattle.grammar.specs.Reader.{read_properties}
 use Rattle.grammar.specs.Input.{read}
 use Rattle.properties.proofs.Turns.{goes_start, goes_end, goes_on}
 use Rattle.properties.proofs.read_properties.Goals as goal
+use Rattle.base.proofs.Options.{handed_on, not_some}
 
-pub loop-e-init : goal.loop-e-init
-loop-e-init c = (λ τ f h. goes_start (Reads _ _) _ _ _ _ f h, (refl, refl))
+pub loop-head-init : goal.loop-head-init
+loop-head-init c = (λ τ f h. goes_start (Reads _ _) _ _ _ _ f h, (refl, refl))
 
-pub returns-in-NoHead : goal.returns-in-NoHead
+pub returns-in_err-head : goal.returns-in_err-head
 unfolding read_properties
-returns-in-NoHead c = λ τ f h. goes_end (Reads _ _) _ _ _ _ _ _ (c.loop-e.invariant.0 τ f h) (λ k l. head_none (Reads _ _ _ _ _) (c.read_head.ensures _ _ _) c.in-NoHead.is (λ e τ p. refuses p))
+returns-in_err-head c = rw (handed_on _ c.from_residual.ensures) (λ τ f h. goes_end (Reads _ _) _ _ _ _ _ _ (c.loop-head.invariant.0 τ f h) (λ k l. next_none (Reads _ _ _ _ _) (c.read_head.ensures _ _ _) c.in_err-head.was (λ e τ p. refuses p)))
 
-pub returns-in-LastHead : goal.returns-in-LastHead
+pub returns-in_default : goal.returns-in_default
 unfolding read_properties
-returns-in-LastHead c = λ τ f h. goes_end (Reads _ _) _ _ _ _ _ _ (c.loop-e.invariant.0 τ f h) (λ k l. head_last (Reads _ _ _ _ _) (c.read_head.ensures _ _ _) c.in-LastHead.is (λ m1. done _ (omega arith)))
+returns-in_default c = λ τ f h. goes_end (Reads _ _) _ _ _ _ _ _ (c.loop-head.invariant.0 τ f h) (λ k l. next_end (Reads _ _ _ _ _) (c.read_head.ensures _ _ _) c.in_ok-head.was (not_some _ c.in_default.not-Some) (λ m1. done _ (omega arith)))
 
-pub returns-in-Refused : goal.returns-in-Refused
+pub returns-in_err-f : goal.returns-in_err-f
 unfolding read_properties
-returns-in-Refused c = λ τ f h. goes_end (Reads _ _) _ _ _ _ _ _ (c.loop-e.invariant.0 τ f h) (λ k l. head_next (Reads _ _ _ _ _) (c.read_head.ensures _ _ _) c.in-NextHead.is (λ m1. lead_stop (Reads _ _ _ _ _) (c.read_property.ensures τ k _ (omega arith)) c.in-Refused.is (λ e τ p. refuses p)))
+returns-in_err-f c = rw (handed_on _ c.from_residual-in_err-f.ensures) (λ τ f h. goes_end (Reads _ _) _ _ _ _ _ _ (c.loop-head.invariant.0 τ f h) (λ k l. next_one (Reads _ _ _ _ _) (c.read_head.ensures _ _ _) c.in_ok-head.was c.in-Some.is (λ m1. lead_stop (Reads _ _ _ _ _) (c.read_property.ensures τ k _ (omega arith)) c.in_err-f.was (λ e τ p. refuses p))))
 
-pub loop-e-smaller : goal.loop-e-smaller
-loop-e-smaller c = omega (arith, (head_next (λ a. left c.args.bundle.now c.args.source c.in-NextHead.d < left c.args.bundle.now c.args.source c.loop-e.at) (c.read_head.ensures (lent c.args.n [] [] [] [] [] []) (λ d. read [] d (lent c.args.n [] [] [] [] [] [])) (λ y d. read [] d (lent c.args.n [] [] [] [] [] []))) c.in-NextHead.is (λ m. m)), (lead_on (λ a. left c.args.bundle.now c.args.source c.in-Done.f ≤ left c.args.bundle.now c.args.source c.in-NextHead.d) (c.read_property.ensures (lent c.args.n [] [] [] [] [] []) (suc (left c.args.bundle.now c.args.source c.in-NextHead.d)) (λ x d τ. read [] d τ) (omega arith)) c.in-Done.is (λ x l. l)))
+pub loop-head-smaller : goal.loop-head-smaller
+loop-head-smaller c = omega (arith, (next_one (λ a. left c.args.bundle.now c.args.source c.in_ok-head.d < left c.args.bundle.now c.args.source c.loop-head.at) (c.read_head.ensures (lent c.args.n [] [] [] [] [] []) (λ d. read [] d (lent c.args.n [] [] [] [] [] [])) (λ y d. read [] d (lent c.args.n [] [] [] [] [] []))) c.in_ok-head.was c.in-Some.is (λ m. m)), (lead_on (λ a. left c.args.bundle.now c.args.source c.in_ok-f.f ≤ left c.args.bundle.now c.args.source c.in_ok-head.d) (c.read_property.ensures (lent c.args.n [] [] [] [] [] []) (suc (left c.args.bundle.now c.args.source c.in_ok-head.d)) (λ x d τ. read [] d τ) (omega arith)) c.in_ok-f.was (λ x l. l)))
 
-pub loop-e-preserved : goal.loop-e-preserved
+pub loop-head-preserved : goal.loop-head-preserved
 unfolding read_properties
-loop-e-preserved c = (λ τ f h. goes_on (Reads _ _) _ _ _ _ _ _ _ _ (c.loop-e.invariant.0 τ f h) (omega (arith, (head_next (λ a. left c.args.bundle.now c.args.source c.in-NextHead.d < left c.args.bundle.now c.args.source c.loop-e.at) (c.read_head.ensures (lent c.args.n [] [] [] [] [] []) (λ d. read [] d (lent c.args.n [] [] [] [] [] [])) (λ y d. read [] d (lent c.args.n [] [] [] [] [] []))) c.in-NextHead.is (λ m. m)), (lead_on (λ a. left c.args.bundle.now c.args.source c.in-Done.f ≤ left c.args.bundle.now c.args.source c.in-NextHead.d) (c.read_property.ensures (lent c.args.n [] [] [] [] [] []) (suc (left c.args.bundle.now c.args.source c.in-NextHead.d)) (λ x d τ. read [] d τ) (omega arith)) c.in-Done.is (λ x l. l)))) (λ k l t r q. head_next (Reads _ _ _ _ _) (c.read_head.ensures _ _ _) c.in-NextHead.is (λ m1. lead_on (Reads _ _ _ _ _) (c.read_property.ensures τ k _ (omega arith)) c.in-Done.is (λ x m2. widen (omega arith) (after_reads _ _ q)))), (omega (arith, c.read_property.auto.properties, c.loop-e.invariant.1.0), omega (arith, c.read_property.auto.numbers, c.loop-e.invariant.1.1)))
+loop-head-preserved c = (λ τ f h. goes_on (Reads _ _) _ _ _ _ _ _ _ _ (c.loop-head.invariant.0 τ f h) (omega (arith, (next_one (λ a. left c.args.bundle.now c.args.source c.in_ok-head.d < left c.args.bundle.now c.args.source c.loop-head.at) (c.read_head.ensures (lent c.args.n [] [] [] [] [] []) (λ d. read [] d (lent c.args.n [] [] [] [] [] [])) (λ y d. read [] d (lent c.args.n [] [] [] [] [] []))) c.in_ok-head.was c.in-Some.is (λ m. m)), (lead_on (λ a. left c.args.bundle.now c.args.source c.in_ok-f.f ≤ left c.args.bundle.now c.args.source c.in_ok-head.d) (c.read_property.ensures (lent c.args.n [] [] [] [] [] []) (suc (left c.args.bundle.now c.args.source c.in_ok-head.d)) (λ x d τ. read [] d τ) (omega arith)) c.in_ok-f.was (λ x l. l)))) (λ k l t r q. next_one (Reads _ _ _ _ _) (c.read_head.ensures _ _ _) c.in_ok-head.was c.in-Some.is (λ m1. lead_on (Reads _ _ _ _ _) (c.read_property.ensures τ k _ (omega arith)) c.in_ok-f.was (λ x m2. widen (omega arith) (after_reads _ _ q)))), (omega (arith, c.read_property.auto.properties, c.loop-head.invariant.1.0), omega (arith, c.read_property.auto.numbers, c.loop-head.invariant.1.1)))

@@ -11,13 +11,13 @@ use Rattle.grammar.specs.Reader.{read_properties}
 use Rattle.properties.proofs.Turns.{Goes}
 use Rattle.properties.proofs.read_properties.Given as goal
 
-abbrev pub invariant-loop-e : goal.invariant-loop-e
-invariant-loop-e l = ((τ : Lent) (f : ℕ)
+abbrev pub invariant-loop-head : goal.invariant-loop-head
+invariant-loop-head l = ((τ : Lent) (f : ℕ)
     → left l.bundle l.source l.initial.at < f
     → Goes (Reads l.bundle l.source) l.bundle l.source (left l.bundle l.source l.initial.at)
     (read_properties (reading l.bundle) f (colors_of l.bundle l.colors l.known) (spot l.source l.initial.at) (at_properties τ l.initial.properties l.initial.numbers l.initial.k)) l.at
     (λ f. read_properties (reading l.bundle) f (colors_of l.bundle l.colors l.known) (spot l.source l.at) (at_properties τ l.properties l.numbers l.k)))
     × ((length l.properties ≡ length l.initial.properties) × (length l.numbers ≡ length l.initial.numbers))
 
-abbrev pub decreases-loop-e : goal.decreases-loop-e
-decreases-loop-e l = left l.bundle l.source l.at
+abbrev pub decreases-loop-head : goal.decreases-loop-head
+decreases-loop-head l = left l.bundle l.source l.at

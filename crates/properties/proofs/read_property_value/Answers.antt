@@ -11,31 +11,32 @@ use Rattle.grammar.specs.Reader.{read_property_value}
 use Rattle.properties.proofs.ValueLaws.{widen_value}
 use borrow.Enum.Refused.{opened}
 use Rattle.properties.proofs.read_property_value.Goals as goal
+use Rattle.base.proofs.Options.{handed_on}
 
-pub returns-in-NoToken : goal.returns-in-NoToken
+pub returns-in_err-t : goal.returns-in_err-t
 unfolding read_property_value token_of is_sign on_identifier on_string on_color on_color_ref on_number
-returns-in-NoToken c = λ τ k h. no_token (Values _ _ _ _ _) _ _ _ _ _ (via c.read_mandatory_token.ensures c.in-NoToken.is) (bad_value refl)
+returns-in_err-t c = rw (handed_on _ c.from_residual.ensures) (λ τ k h. no_token (Values _ _ _ _ _) _ _ _ _ _ (via c.read_mandatory_token.ensures c.in_err-t.was) (bad_value refl))
 
 pub returns-in-Identifier : goal.returns-in-Identifier
 unfolding read_property_value token_of is_sign on_identifier on_string on_color on_color_ref on_number
-returns-in-Identifier c = λ τ k h. got_as (Values _ _ _ _ _) _ _ _ _ _ (via c.read_mandatory_token.ensures c.in-Got.is) c.in-Identifier.is (λ m1. widen_value (omega arith) (c.read_identifier_value.ensures τ k (omega arith)))
+returns-in-Identifier c = λ τ k h. got_as (Values _ _ _ _ _) _ _ _ _ _ (via c.read_mandatory_token.ensures c.in_ok-t.was) c.in-Identifier.is (λ m1. widen_value (omega arith) (c.read_identifier_value.ensures τ k (omega arith)))
 
 pub returns-in-Text : goal.returns-in-Text
 unfolding read_property_value token_of is_sign on_identifier on_string on_color on_color_ref on_number
-returns-in-Text c = λ τ k h. got_as (Values _ _ _ _ _) _ _ _ _ _ (via c.read_mandatory_token.ensures c.in-Got.is) c.in-Text.is (λ m1. widen_value (omega arith) (c.end_value.ensures _ refl (at_numbers τ c.args.numbers.now c.args.n)))
+returns-in-Text c = λ τ k h. got_as (Values _ _ _ _ _) _ _ _ _ _ (via c.read_mandatory_token.ensures c.in_ok-t.was) c.in-Text.is (λ m1. widen_value (omega arith) (c.end_value.ensures _ refl (at_numbers τ c.args.numbers.now c.args.n)))
 
 pub returns-in-Color : goal.returns-in-Color
 unfolding read_property_value token_of is_sign on_identifier on_string on_color on_color_ref on_number
-returns-in-Color c = λ τ k h. got_as (Values _ _ _ _ _) _ _ _ _ _ (via c.read_mandatory_token.ensures c.in-Got.is) c.in-Color.is (λ m1. widen_value (omega arith) (c.end_value-in-Color.ensures _ refl (at_numbers τ c.args.numbers.now c.args.n)))
+returns-in-Color c = λ τ k h. got_as (Values _ _ _ _ _) _ _ _ _ _ (via c.read_mandatory_token.ensures c.in_ok-t.was) c.in-Color.is (λ m1. widen_value (omega arith) (c.end_value-in-Color.ensures _ refl (at_numbers τ c.args.numbers.now c.args.n)))
 
 pub returns-in-ColorRef : goal.returns-in-ColorRef
 unfolding read_property_value token_of is_sign on_identifier on_string on_color on_color_ref on_number
-returns-in-ColorRef c = λ τ k h. got_as (Values _ _ _ _ _) _ _ _ _ _ (via c.read_mandatory_token.ensures c.in-Got.is) c.in-ColorRef.is (λ m1. widen_value (omega arith) (c.read_reference.ensures (at_numbers τ c.args.numbers.now c.args.n)))
+returns-in-ColorRef c = λ τ k h. got_as (Values _ _ _ _ _) _ _ _ _ _ (via c.read_mandatory_token.ensures c.in_ok-t.was) c.in-ColorRef.is (λ m1. widen_value (omega arith) (c.read_reference.ensures (at_numbers τ c.args.numbers.now c.args.n)))
 
 pub returns-in-Number : goal.returns-in-Number
 unfolding read_property_value token_of is_sign on_identifier on_string on_color on_color_ref on_number
-returns-in-Number c = λ τ k h. got_as (Values _ _ _ _ _) _ _ _ _ _ (via c.read_mandatory_token.ensures c.in-Got.is) c.in-Number.is (λ m1. widen_value (omega arith) (c.read_numbers_value.ensures τ k (omega arith)))
+returns-in-Number c = λ τ k h. got_as (Values _ _ _ _ _) _ _ _ _ _ (via c.read_mandatory_token.ensures c.in_ok-t.was) c.in-Number.is (λ m1. widen_value (omega arith) (c.read_numbers_value.ensures τ k (omega arith)))
 
 pub returns-in_default : goal.returns-in_default
 unfolding read_property_value
-returns-in_default c = λ τ k h. got (Values _ _ _ _ _) _ _ _ _ _ (via c.read_mandatory_token.ensures c.in-Got.is) (λ m1. not_identifier _ (1 ∷ 2 ∷ 3 ∷ 5 ∷ 6 ∷ []) _ (opened c.in_default.in_default-own.keys6) (Values _ _ _ _ _) _ _ tt (not_string _ (1 ∷ 2 ∷ 3 ∷ 5 ∷ 6 ∷ []) _ (opened c.in_default.in_default-own.keys6) (Values _ _ _ _ _) _ _ tt (not_color _ (1 ∷ 2 ∷ 3 ∷ 5 ∷ 6 ∷ []) _ (opened c.in_default.in_default-own.keys6) (Values _ _ _ _ _) _ _ tt (not_color_ref _ (1 ∷ 2 ∷ 3 ∷ 5 ∷ 6 ∷ []) _ (opened c.in_default.in_default-own.keys6) (Values _ _ _ _ _) _ _ tt (not_number_lem _ (1 ∷ 2 ∷ 3 ∷ 5 ∷ 6 ∷ []) _ (opened c.in_default.in_default-own.keys6) (Values _ _ _ _ _) _ _ tt (bad_value c.refuse.ensures))))))
+returns-in_default c = λ τ k h. got (Values _ _ _ _ _) _ _ _ _ _ (via c.read_mandatory_token.ensures c.in_ok-t.was) (λ m1. not_identifier _ (1 ∷ 2 ∷ 3 ∷ 5 ∷ 6 ∷ []) _ (opened c.in_default.in_default-own.keys6) (Values _ _ _ _ _) _ _ tt (not_string _ (1 ∷ 2 ∷ 3 ∷ 5 ∷ 6 ∷ []) _ (opened c.in_default.in_default-own.keys6) (Values _ _ _ _ _) _ _ tt (not_color _ (1 ∷ 2 ∷ 3 ∷ 5 ∷ 6 ∷ []) _ (opened c.in_default.in_default-own.keys6) (Values _ _ _ _ _) _ _ tt (not_color_ref _ (1 ∷ 2 ∷ 3 ∷ 5 ∷ 6 ∷ []) _ (opened c.in_default.in_default-own.keys6) (Values _ _ _ _ _) _ _ tt (not_number_lem _ (1 ∷ 2 ∷ 3 ∷ 5 ∷ 6 ∷ []) _ (opened c.in_default.in_default-own.keys6) (Values _ _ _ _ _) _ _ tt (bad_value c.refuse.ensures))))))

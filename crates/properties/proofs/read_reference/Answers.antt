@@ -7,8 +7,8 @@ use Rattle.grammar.specs.Reading.{colored}
 use Rattle.table.specs.declared.PropertyValue.TheVariants.{Shade}
 use Rattle.properties.proofs.read_reference.Goals as goal
 
-pub returns-in-Nowhere : goal.returns-in-Nowhere
-returns-in-Nowhere c = λ τ. no_reference c.args.bundle.now c.args.colors.now c.args.name (Values _ _ _ _ _) _ _ _ (via c.find_color.ensures c.in-Nowhere.is) (bad_value c.refuse_reached.ensures)
+pub returns-in-None : goal.returns-in-None
+returns-in-None c = λ τ. no_reference c.args.bundle.now c.args.colors.now c.args.name (Values _ _ _ _ _) _ _ _ (via c.find_color.ensures c.in-None.is) (bad_value c.refuse_reached.ensures)
 
-pub returns-in-At : goal.returns-in-At
-returns-in-At c = λ τ. reference c.args.bundle.now c.args.colors.now c.args.name (Values _ _ _ _ _) _ _ _ (via c.find_color.ensures c.in-At.is) ((c.end_value.ensures (colored (color_at c.args.colors.now c.in-At.i)) (ap Shade (sym c.color_at.ensures)) τ))
+pub returns-in-Some : goal.returns-in-Some
+returns-in-Some c = λ τ. reference c.args.bundle.now c.args.colors.now c.args.name (Values _ _ _ _ _) _ _ _ (via c.find_color.ensures c.in-Some.is) ((c.end_value.ensures (colored (color_at c.args.colors.now c.in-Some.i)) (ap Shade (sym c.color_at.ensures)) τ))

@@ -11,8 +11,8 @@ use mathlib.Core.Path.{◌≡◌}
 use Prim.Native.Nat.{ℕ, suc, ◌<◌}
 use Rattle.rules.proofs.read_rule.Given as goal
 
-abbrev pub invariant-loop-e : goal.invariant-loop-e
-invariant-loop-e l = ((f : ℕ)
+abbrev pub invariant-loop-start : goal.invariant-loop-start
+invariant-loop-start l = ((f : ℕ)
     → left l.bundle l.source l.initial.at < f
     → Goes (Reads l.bundle l.source) l.bundle l.source (left l.bundle l.source l.initial.at)
     (read_rule (reading l.bundle) (suc f) (colors_of l.bundle l.colors l.known) (lent l.initial.k l.initial.rules l.initial.selectors l.initial.tests l.initial.properties l.initial.numbers l.colors) (token_of l.bundle l.initial.first) l.initial.begins (spot l.source l.initial.at)) l.at
@@ -21,5 +21,5 @@ invariant-loop-e l = ((f : ℕ)
     × ((length l.selectors ≡ length l.initial.selectors)
     × ((length l.tests ≡ length l.initial.tests) × ((length l.properties ≡ length l.initial.properties) × (length l.numbers ≡ length l.initial.numbers)))))
 
-abbrev pub decreases-loop-e : goal.decreases-loop-e
-decreases-loop-e l = left l.bundle l.source l.at
+abbrev pub decreases-loop-start : goal.decreases-loop-start
+decreases-loop-start l = left l.bundle l.source l.at

@@ -12,8 +12,8 @@ use mathlib.Core.Path.{◌≡◌}
 use Prim.Native.Nat.{ℕ, ◌<◌}
 use Rattle.rules.proofs.read_selector.Given as goal
 
-abbrev pub invariant-loop-e : goal.invariant-loop-e
-invariant-loop-e l = ((τ : Lent) (f : ℕ) (y : ObjectType)
+abbrev pub invariant-loop-part : goal.invariant-loop-part
+invariant-loop-part l = ((τ : Lent) (f : ℕ) (y : ObjectType)
     → type_number y ≡ l.kind
     → left l.bundle l.source l.initial.at < f
     → (σ : Selector)
@@ -23,5 +23,5 @@ invariant-loop-e l = ((τ : Lent) (f : ℕ) (y : ObjectType)
     (λ f. read_parts (reading l.bundle) f σ (spot l.source l.at) (at_selectors τ l.selectors l.tests l.numbers l.k))))
     × ((length l.selectors ≡ length l.initial.selectors) × ((length l.tests ≡ length l.initial.tests) × (length l.numbers ≡ length l.initial.numbers)))
 
-abbrev pub decreases-loop-e : goal.decreases-loop-e
-decreases-loop-e l = left l.bundle l.source l.at
+abbrev pub decreases-loop-part : goal.decreases-loop-part
+decreases-loop-part l = left l.bundle l.source l.at

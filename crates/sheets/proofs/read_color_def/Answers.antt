@@ -4,15 +4,16 @@ use Rattle.base.specs.Choice.{via}
 use Rattle.keep.proofs.Laws.{no_token, got, another, beyond, widen}
 use Rattle.keep.specs.Answers.{Reads, refuses}
 use Rattle.sheets.proofs.read_color_def.Goals as goal
+use Rattle.base.proofs.Options.{handed_on}
 
-pub returns-in-Another : goal.returns-in-Another
-returns-in-Another c = λ τ. another (Reads _ _ _ _ _) _ _ _ _ _ _ (via c.expect_colon.ensures c.in-Another.is) (refuses refl)
+pub returns-in_err-d : goal.returns-in_err-d
+returns-in_err-d c = rw (handed_on _ c.from_residual.ensures) (λ τ. another (Reads _ _ _ _ _) _ _ _ _ _ _ (via c.expect_colon.ensures c.in_err-d.was) (refuses refl))
 
-pub returns-in-NoToken : goal.returns-in-NoToken
-returns-in-NoToken c = λ τ. beyond (Reads _ _ _ _ _) _ _ _ _ _ _ (via c.expect_colon.ensures c.in-Beyond.is) (λ m1. no_token (Reads _ _ _ _ _) _ _ _ _ _ (via c.read_mandatory_token.ensures c.in-NoToken.is) (refuses refl))
+pub returns-in_err-t : goal.returns-in_err-t
+returns-in_err-t c = rw (handed_on _ c.from_residual-in_err-t.ensures) (λ τ. beyond (Reads _ _ _ _ _) _ _ _ _ _ _ (via c.expect_colon.ensures c.in_ok-d.was) (λ m1. no_token (Reads _ _ _ _ _) _ _ _ _ _ (via c.read_mandatory_token.ensures c.in_err-t.was) (refuses refl)))
 
-pub returns-in-Another-expect_semicolon : goal.returns-in-Another-expect_semicolon
-returns-in-Another-expect_semicolon c = λ τ. beyond (Reads _ _ _ _ _) _ _ _ _ _ _ (via c.expect_colon.ensures c.in-Beyond.is) (λ m1. got (Reads _ _ _ _ _) _ _ _ _ _ (via c.read_mandatory_token.ensures c.in-Got.is) (λ m2. another (Reads _ _ _ _ _) _ _ _ _ _ _ (via c.expect_semicolon.ensures c.in-Another-expect_semicolon.is) (refuses refl)))
+pub returns-in_err-g : goal.returns-in_err-g
+returns-in_err-g c = rw (handed_on _ c.from_residual-in_err-g.ensures) (λ τ. beyond (Reads _ _ _ _ _) _ _ _ _ _ _ (via c.expect_colon.ensures c.in_ok-d.was) (λ m1. got (Reads _ _ _ _ _) _ _ _ _ _ (via c.read_mandatory_token.ensures c.in_ok-t.was) (λ m2. another (Reads _ _ _ _ _) _ _ _ _ _ _ (via c.expect_semicolon.ensures c.in_err-g.was) (refuses refl))))
 
-pub returns-in-Beyond-expect_semicolon : goal.returns-in-Beyond-expect_semicolon
-returns-in-Beyond-expect_semicolon c = λ τ. beyond (Reads _ _ _ _ _) _ _ _ _ _ _ (via c.expect_colon.ensures c.in-Beyond.is) (λ m1. got (Reads _ _ _ _ _) _ _ _ _ _ (via c.read_mandatory_token.ensures c.in-Got.is) (λ m2. beyond (Reads _ _ _ _ _) _ _ _ _ _ _ (via c.expect_semicolon.ensures c.in-Beyond-expect_semicolon.is) (λ m3. widen (omega arith) (c.store_definition.ensures τ))))
+pub returns : goal.returns
+returns c = λ τ. beyond (Reads _ _ _ _ _) _ _ _ _ _ _ (via c.expect_colon.ensures c.in_ok-d.was) (λ m1. got (Reads _ _ _ _ _) _ _ _ _ _ (via c.read_mandatory_token.ensures c.in_ok-t.was) (λ m2. beyond (Reads _ _ _ _ _) _ _ _ _ _ _ (via c.expect_semicolon.ensures c.in_ok-g.was) (λ m3. widen (omega arith) (c.store_definition.ensures τ))))

@@ -12,13 +12,13 @@ use native.Mathlib.Omega.{arith}
 use borrow.Enum.Refused.{opened}
 use Rattle.sheets.proofs.store_definition.Goals as goal
 
-pub returns-in-NoRoom : goal.returns-in-NoRoom
+pub returns-in-None : goal.returns-in-None
 unfolding token_of color_of on_color on_option
-returns-in-NoRoom c = λ τ. defined_as (Reads _ _ _ _ _) c.args.bundle.now c.args.source c.args.name c.args.c _ (λ t τ. read (definition (name_in c.args.bundle.now c.args.name) t) (spot c.args.source c.args.c) τ) c.in-Color.is (no_room_color (Reads _ _ _ _ _) c.args.bundle.now c.args.source c.args.name c.in-Color.x c.args.c _ _ (via_with c.keep_color.ensures c.in-NoRoom.is) (refuses c.refuse_reached.ensures))
+returns-in-None c = λ τ. defined_as (Reads _ _ _ _ _) c.args.bundle.now c.args.source c.args.name c.args.c _ (λ t τ. read (definition (name_in c.args.bundle.now c.args.name) t) (spot c.args.source c.args.c) τ) c.in-Color.is (no_room_color (Reads _ _ _ _ _) c.args.bundle.now c.args.source c.args.name c.in-Color.x c.args.c _ _ (via_with c.keep_color.ensures c.in-None.is) (refuses c.refuse_reached.ensures))
 
-pub returns-in-Stored : goal.returns-in-Stored
+pub returns-in-Some : goal.returns-in-Some
 unfolding token_of color_of on_color on_option
-returns-in-Stored c = λ τ. defined_as (Reads _ _ _ _ _) c.args.bundle.now c.args.source c.args.name c.args.c _ (λ t τ. read (definition (name_in c.args.bundle.now c.args.name) t) (spot c.args.source c.args.c) τ) c.in-Color.is (room_color (Reads _ _ _ _ _) c.args.bundle.now c.args.source c.args.name c.in-Color.x c.args.c _ _ (via_with c.keep_color.ensures c.in-Stored.is) (done _ (omega arith)))
+returns-in-Some c = λ τ. defined_as (Reads _ _ _ _ _) c.args.bundle.now c.args.source c.args.name c.args.c _ (λ t τ. read (definition (name_in c.args.bundle.now c.args.name) t) (spot c.args.source c.args.c) τ) c.in-Color.is (room_color (Reads _ _ _ _ _) c.args.bundle.now c.args.source c.args.name c.in-Color.x c.args.c _ _ (via_with c.keep_color.ensures c.in-Some.is) (done _ (omega arith)))
 
 pub returns-in_default : goal.returns-in_default
 returns-in_default c = λ τ. no_definition (Reads _ _ _ _ _) c.args.bundle.now c.args.source (6 ∷ []) c.args.t c.args.name c.args.c (at_colors τ c.args.colors.now c.args.n) (λ τ. read (definition (name_in c.args.bundle.now c.args.name) (token_of c.args.bundle.now c.args.t)) (spot c.args.source c.args.c) τ) (opened c.in_default.in_default-own.keys2) tt (done _ (omega arith))

@@ -1,16 +1,16 @@
-use mathlib.Core.Path.{refl}
-use Rattle.base.specs.Choice.{if_true, if_false, pick}
+use Rattle.std.proofs.Common.{◌∙◌}
+use Rattle.base.specs.Option.{on_option}
 use Rattle.style.specs.Style.{casing_only}
 use Rattle.style.proofs.casing_only.Goals as goal
 
-pub returns-then-one : goal.returns-then-one
-unfolding casing_only pick
-returns-then-one c = simp c.if-one.true
+pub returns-in_err-d-in-None : goal.returns-in_err-d-in-None
+unfolding casing_only on_option
+returns-in_err-d-in-None c = c.from_residual.ensures ∙ simp (c.in_err-d-in-None.was, c.in-None.is)
 
-pub returns-then-delta : goal.returns-then-delta
-unfolding casing_only
-returns-then-delta c = if_false _ _ _ c.if-one.false (if_true _ _ _ c.if-delta.true refl)
+pub returns-in_ok-d-in-None : goal.returns-in_ok-d-in-None
+unfolding casing_only on_option
+returns-in_ok-d-in-None c = simp (c.in_ok-d-in-None.was, c.in-None.is)
 
-pub returns : goal.returns
-unfolding casing_only pick
-returns c = simp (c.if-delta.false, c.if-one.false)
+pub returns-in-Some : goal.returns-in-Some
+unfolding casing_only on_option
+returns-in-Some c = simp c.in-Some.is

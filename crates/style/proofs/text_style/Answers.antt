@@ -1,17 +1,17 @@
 use Rattle.style.specs.Style.{text_style_of}
 use Rattle.style.proofs.text_style.Goals as goal
 
-pub returns-in-NoText : goal.returns-in-NoText
+pub returns-in-None : goal.returns-in-None
 unfolding text_style_of
-returns-in-NoText c = simp (c.in-NoText.is, ← c.get_string.ensures)
+returns-in-None c = simp (c.in-None.is, ← c.get_string.ensures)
 
-pub returns-in-Shown : goal.returns-in-Shown
+pub returns-in-Some : goal.returns-in-Some
 unfolding text_style_of
-returns-in-Shown c = simp (
+returns-in-Some c = simp (
   ← c.get_text_position.ensures,
   ← c.get_color.ensures,
   ← c.font_size-size.ensures,
   ← c.get_num.ensures,
-  c.in-Shown.is,
+  c.in-Some.is,
   ← c.get_string.ensures,
 )

@@ -1,12 +1,12 @@
 use lib.Ieee.{of_bits, of_int}
-use Rattle.base.specs.Choice.{pick}
+use Rattle.base.specs.Option.{on_option}
 use Rattle.style.specs.Style.{width_or_zero}
 use Rattle.style.proofs.width_or_zero.Goals as goal
 
-pub returns-then-width : goal.returns-then-width
-unfolding width_or_zero pick of_bits of_int
-returns-then-width c = simp c.if-width.true
+pub returns-in-None : goal.returns-in-None
+unfolding width_or_zero on_option of_bits of_int
+returns-in-None c = simp c.in-None.is
 
-pub returns : goal.returns
-unfolding width_or_zero pick of_bits of_int
-returns c = simp c.if-width.false
+pub returns-in-Some : goal.returns-in-Some
+unfolding width_or_zero on_option of_bits of_int
+returns-in-Some c = simp c.in-Some.is

@@ -2,10 +2,10 @@ use mathlib.Core.Path.{sym, ap}
 use Rattle.style_rows.specs.Rows.{has_layer}
 use Rattle.style_rows.proofs.has_layer.Goals as goal
 
-pub returns-in-NoLayer : goal.returns-in-NoLayer
+pub returns-in-None : goal.returns-in-None
 unfolding has_layer
-returns-in-NoLayer c = sym (ap has_layer c.in-NoLayer.is)
+returns-in-None c = sym (ap has_layer c.in-None.is)
 
-pub returns-in-Layer : goal.returns-in-Layer
+pub returns-in-Some : goal.returns-in-Some
 unfolding has_layer
-returns-in-Layer c = sym (ap has_layer c.in-Layer.is)
+returns-in-Some c = sym (ap has_layer c.in-Some.is)

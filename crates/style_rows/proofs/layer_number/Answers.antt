@@ -4,10 +4,10 @@ use mir.Syntax.{w64}
 use Rattle.style_rows.specs.Rows.{layer_number}
 use Rattle.style_rows.proofs.layer_number.Goals as goal
 
-pub returns-in-NoLayer : goal.returns-in-NoLayer
+pub returns-in-None : goal.returns-in-None
 unfolding layer_number
-returns-in-NoLayer c = sym (ap layer_number c.in-NoLayer.is)
+returns-in-None c = sym (ap layer_number c.in-None.is)
 
-pub returns-in-Layer : goal.returns-in-Layer
+pub returns-in-Some : goal.returns-in-Some
 unfolding layer_number
-returns-in-Layer c = to_z-of_z {w = w64} (record { sfits = c.in-Layer.known_told-1-own.given.0.1 }) ∙ sym (ap layer_number c.in-Layer.is)
+returns-in-Some c = to_z-of_z {w = w64} (record { sfits = c.in-Some.known_told-1-own.given.0.1 }) ∙ sym (ap layer_number c.in-Some.is)

@@ -1,15 +1,14 @@
-use mathlib.Core.Path.{sym, ap}
 use Rattle.style_rows.specs.Rows.{position_number}
 use Rattle.style_rows.proofs.position_number.Goals as goal
 
-pub returns-in-NoPosition : goal.returns-in-NoPosition
+pub returns-in-None : goal.returns-in-None
 unfolding position_number
-returns-in-NoPosition c = sym (ap position_number c.in-NoPosition.is)
+returns-in-None c = simp c.in-None.is
 
 pub returns-in-Center : goal.returns-in-Center
 unfolding position_number
-returns-in-Center c = sym (ap position_number c.in-Center.is)
+returns-in-Center c = simp (c.in-Center.is, c.in-Some.is)
 
 pub returns-in-Line : goal.returns-in-Line
 unfolding position_number
-returns-in-Line c = sym (ap position_number c.in-Line.is)
+returns-in-Line c = simp (c.in-Line.is, c.in-Some.is)

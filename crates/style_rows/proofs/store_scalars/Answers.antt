@@ -36,11 +36,11 @@ returns c = let a =
     eleven_stored a.words.now a.at a.x.selector
     c.has_layer.result
     c.flag.result
-    c.flag-2.result
-    c.flag-3.result
-    c.flag-4.result
-    c.flag-5.result
-    c.flag-6.result
+    c.has_number.result
+    c.has_number-2.result
+    c.has_number-3.result
+    c.has_number-4.result
+    c.has_number-5.result
     c.cap_number.result
     c.cap_number-2.result
     c.position_number.result
@@ -60,11 +60,11 @@ returns c = let a =
     a.x.selector
     c.has_layer.ensures
     c.flag.ensures
-    c.flag-2.ensures
-    c.flag-3.ensures
-    c.flag-4.ensures
-    c.flag-5.ensures
-    c.flag-6.ensures
+    c.has_number.ensures
+    c.has_number-2.ensures
+    c.has_number-3.ensures
+    c.has_number-4.ensures
+    c.has_number-5.ensures
     c.cap_number.ensures
     c.cap_number-2.ensures
     c.position_number.ensures

@@ -5,20 +5,20 @@ use Rattle.styles.proofs.StylesLaws.{walked_refused, walked_filled}
 use Rattle.styles.proofs.walked_styles.Goals as goal
 
 pub filled_layers-requires : goal.filled_layers-requires
-filled_layers-requires c = subst few c.in-Maps.is c.walk_entity.ensures.few
+filled_layers-requires c = subst few c.in-Ok.is c.walk_entity.ensures.few
 
-pub returns-in-NoMaps : goal.returns-in-NoMaps
-returns-in-NoMaps c = let a = c.args in
+pub returns-in-Err : goal.returns-in-Err
+returns-in-Err c = let a = c.args in
     walked_refused a.bundle.now a.rules.now a.selectors.now a.tests.now a.properties.now a.numbers.now a.total
     a.zoom a.settings a.entity.now a.e _ _
-    c.walk_entity.ensures.maps_after _ _ c.in-NoMaps.is
+    c.walk_entity.ensures.maps_after _ _ c.in-Err.is
     c.no_styles.ensures
 
-pub returns-in-Maps : goal.returns-in-Maps
-returns-in-Maps c = let a =
+pub returns-in-Ok : goal.returns-in-Ok
+returns-in-Ok c = let a =
     c.args in
     walked_filled a.bundle.now a.rules.now a.selectors.now a.tests.now a.properties.now a.numbers.now a.total
     a.zoom a.settings a.entity.now a.e _ _
     c.walk_entity.ensures.maps_after _ _
-    c.in-Maps.is _ c.tag_layer.ensures
+    c.in-Ok.is _ c.tag_layer.ensures
     c.filled_layers.ensures

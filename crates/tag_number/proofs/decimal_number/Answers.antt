@@ -12,15 +12,15 @@ returns-then-ds-n-eq0 c = decimal_empty
     c.after_decimals.ensures
     c.power_of.ensures c.if-ds-n-eq0.true
 
-pub returns-in-NoPower : goal.returns-in-NoPower
-returns-in-NoPower c = decimal_cut
+pub returns-in-None : goal.returns-in-None
+returns-in-None c = decimal_cut
     c.args.minus
     c.args.t.now _ _ _ _ _
     c.first_digits-ds.ensures
     c.after_digits-r.ensures
     c.decimal_digits-fs.ensures
     c.after_decimals.ensures c.power_of.ensures
-    c.in-NoPower.is
+    c.in-None.is
 
 pub returns-else-ds-n-eq0 : goal.returns-else-ds-n-eq0
 returns-else-ds-n-eq0 c = decimal_value
@@ -31,5 +31,5 @@ returns-else-ds-n-eq0 c = decimal_value
     c.decimal_digits-fs.ensures
     c.after_decimals.ensures
     c.power_of.ensures _ _ _ _ _
-    c.in-Power10.is c.if-ds-n-eq0.false
-    c.spell.ensures c.spell-in-Power10.ensures (search rules) c.value_of.ensures
+    c.in-Some.is c.if-ds-n-eq0.false
+    c.spell.ensures c.spell-in-Some.ensures (search rules) c.value_of.ensures

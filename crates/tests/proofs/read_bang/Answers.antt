@@ -7,12 +7,13 @@ use Rattle.keep.specs.Answers.{Reads, refuses}
 use Rattle.grammar.specs.Reader.{bang_test}
 use Rattle.keep.specs.Source.{reading}
 use Rattle.tests.proofs.read_bang.Goals as goal
+use Rattle.base.proofs.Options.{handed_on}
 
-pub returns-in-NoWord : goal.returns-in-NoWord
-returns-in-NoWord c = λ τ. no_word (Reads _ _ _ _ _) _ _ _ _ _ (via c.read_identifier.ensures c.in-NoWord.is) (refuses refl)
+pub returns-in_err-a : goal.returns-in_err-a
+returns-in_err-a c = rw (handed_on _ c.from_residual.ensures) (λ τ. no_word (Reads _ _ _ _ _) _ _ _ _ _ (via c.read_identifier.ensures c.in_err-a.was) (refuses refl))
 
-pub returns-in-NoKey : goal.returns-in-NoKey
-returns-in-NoKey c = λ τ. a_word (Reads _ _ _ _ _) _ _ _ _ _ (via c.read_identifier.ensures c.in-IsWord.is) (λ m1. no_key (Reads _ _ _ _ _) _ _ _ _ _ (bang_test (reading c.args.bundle.now)) (via c.read_key.ensures c.in-NoKey.is) (refuses refl))
+pub returns-in_err-key : goal.returns-in_err-key
+returns-in_err-key c = rw (handed_on _ c.from_residual-in_err-key.ensures) (λ τ. a_word (Reads _ _ _ _ _) _ _ _ _ _ (via c.read_identifier.ensures c.in_ok-a.was) (λ m1. no_key (Reads _ _ _ _ _) _ _ _ _ _ (bang_test (reading c.args.bundle.now)) (via c.read_key.ensures c.in_err-key.was) (refuses refl)))
 
-pub returns-in-IsKey : goal.returns-in-IsKey
-returns-in-IsKey c = λ τ. a_word (Reads _ _ _ _ _) _ _ _ _ _ (via c.read_identifier.ensures c.in-IsWord.is) (λ m1. a_key (Reads _ _ _ _ _) _ _ _ _ _ (bang_test (reading c.args.bundle.now)) (via c.read_key.ensures c.in-IsKey.is) (λ m2. widen (omega arith) (c.bang_test.ensures τ)))
+pub returns : goal.returns
+returns c = λ τ. a_word (Reads _ _ _ _ _) _ _ _ _ _ (via c.read_identifier.ensures c.in_ok-a.was) (λ m1. a_key (Reads _ _ _ _ _) _ _ _ _ _ (bang_test (reading c.args.bundle.now)) (via c.read_key.ensures c.in_ok-key.was) (λ m2. widen (omega arith) (c.bang_test.ensures τ)))

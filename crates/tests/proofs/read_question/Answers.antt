@@ -12,22 +12,23 @@ use Rattle.input.specs.Text.{token_of}
 use Rattle.sheet.specs.Sheet.{is_false, is_true}
 use borrow.Enum.Refused.{opened}
 use Rattle.tests.proofs.read_question.Goals as goal
+use Rattle.base.proofs.Options.{handed_on}
 
-pub returns-in-NoToken : goal.returns-in-NoToken
+pub returns-in_err-t : goal.returns-in_err-t
 unfolding token_of is_sign
-returns-in-NoToken c = λ τ. no_token (Reads _ _ _ _ _) _ _ _ _ _ (via c.read_mandatory_token.ensures c.in-NoToken.is) (refuses refl)
+returns-in_err-t c = rw (handed_on _ c.from_residual.ensures) (λ τ. no_token (Reads _ _ _ _ _) _ _ _ _ _ (via c.read_mandatory_token.ensures c.in_err-t.was) (refuses refl))
+
+pub returns-in_err-f-in-Bang : goal.returns-in_err-f-in-Bang
+unfolding token_of is_sign
+returns-in_err-f-in-Bang c = rw (handed_on _ c.from_residual-in_err-f-in-Bang.ensures) (λ τ. got_as (Reads _ _ _ _ _) _ _ _ _ _ (via c.read_mandatory_token.ensures c.in_ok-t.was) c.in-Bang.is (λ m1. another (Reads _ _ _ _ _) _ _ _ _ _ _ (via c.expect_right_bracket.ensures c.in_err-f-in-Bang.was) (refuses refl)))
 
 pub returns-in-RightBracket : goal.returns-in-RightBracket
 unfolding token_of is_sign
-returns-in-RightBracket c = λ τ. got_as (Reads _ _ _ _ _) _ _ _ _ _ (via c.read_mandatory_token.ensures c.in-Got.is) c.in-RightBracket.is (λ m1. widen (omega arith) (c.store_test.ensures _ _ (unary_row c.args.bundle.now is_true c.args.key c.args.n.number) τ))
+returns-in-RightBracket c = λ τ. got_as (Reads _ _ _ _ _) _ _ _ _ _ (via c.read_mandatory_token.ensures c.in_ok-t.was) c.in-RightBracket.is (λ m1. widen (omega arith) (c.store_test.ensures _ _ (unary_row c.args.bundle.now is_true c.args.key c.args.n.number) τ))
 
-pub returns-in-Another : goal.returns-in-Another
+pub returns-in_ok-f-in-Bang : goal.returns-in_ok-f-in-Bang
 unfolding token_of is_sign
-returns-in-Another c = λ τ. got_as (Reads _ _ _ _ _) _ _ _ _ _ (via c.read_mandatory_token.ensures c.in-Got.is) c.in-Bang.is (λ m1. another (Reads _ _ _ _ _) _ _ _ _ _ _ (via c.expect_right_bracket.ensures c.in-Another.is) (refuses refl))
-
-pub returns-in-Beyond : goal.returns-in-Beyond
-unfolding token_of is_sign
-returns-in-Beyond c = λ τ. got_as (Reads _ _ _ _ _) _ _ _ _ _ (via c.read_mandatory_token.ensures c.in-Got.is) c.in-Bang.is (λ m1. beyond (Reads _ _ _ _ _) _ _ _ _ _ _ (via c.expect_right_bracket.ensures c.in-Beyond.is) (λ m2. widen (omega arith) (c.store_test-in-Beyond.ensures _ _ (unary_row c.args.bundle.now is_false c.args.key c.args.n.number) τ)))
+returns-in_ok-f-in-Bang c = λ τ. got_as (Reads _ _ _ _ _) _ _ _ _ _ (via c.read_mandatory_token.ensures c.in_ok-t.was) c.in-Bang.is (λ m1. beyond (Reads _ _ _ _ _) _ _ _ _ _ _ (via c.expect_right_bracket.ensures c.in_ok-f-in-Bang.was) (λ m2. widen (omega arith) (c.store_test-in-Bang.ensures _ _ (unary_row c.args.bundle.now is_false c.args.key c.args.n.number) τ)))
 
 pub returns-in_default : goal.returns-in_default
-returns-in_default c = λ τ. got (Reads _ _ _ _ _) _ _ _ _ _ (via c.read_mandatory_token.ensures c.in-Got.is) (λ m1. no_way (Reads _ _ _ _ _) _ _ _ (not_sign _ (10 ∷ 20 ∷ []) _ (opened c.in_default.in_default-own.keys3) right_bracket tt) (no_way (Reads _ _ _ _ _) _ _ _ (not_sign _ (10 ∷ 20 ∷ []) _ (opened c.in_default.in_default-own.keys3) bang tt) (refuses c.refuse.ensures)))
+returns-in_default c = λ τ. got (Reads _ _ _ _ _) _ _ _ _ _ (via c.read_mandatory_token.ensures c.in_ok-t.was) (λ m1. no_way (Reads _ _ _ _ _) _ _ _ (not_sign _ (10 ∷ 20 ∷ []) _ (opened c.in_default.in_default-own.keys3) right_bracket tt) (no_way (Reads _ _ _ _ _) _ _ _ (not_sign _ (10 ∷ 20 ∷ []) _ (opened c.in_default.in_default-own.keys3) bang tt) (refuses c.refuse.ensures)))

@@ -1,12 +1,12 @@
-use mathlib.Core.Path.{refl}
-use Rattle.base.specs.Choice.{if_false, if_true}
+use Rattle.std.proofs.Common.{arith}
+use Rattle.base.specs.Choice.{pick}
 use Rattle.token_number.specs.Number.{is_bare_dot}
 use Rattle.token_number.proofs.is_bare_dot.Goals as goal
 
 pub returns-then-sum : goal.returns-then-sum
-unfolding is_bare_dot
-returns-then-sum c = if_true _ _ _ c.if-sum.true refl
+unfolding is_bare_dot pick
+returns-then-sum c = grind arith
 
-pub returns : goal.returns
-unfolding is_bare_dot
-returns c = if_false _ _ _ c.if-sum.false refl
+pub returns-else-sum : goal.returns-else-sum
+unfolding is_bare_dot pick
+returns-else-sum c = grind arith

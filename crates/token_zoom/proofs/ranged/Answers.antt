@@ -1,12 +1,12 @@
-use mathlib.Core.Path.{refl}
-use Rattle.base.specs.Choice.{if_false, if_true}
+use Rattle.std.proofs.Common.{arith}
+use Rattle.base.specs.Choice.{pick}
 use Rattle.token_zoom.specs.Zoom.{ranged}
 use Rattle.token_zoom.proofs.ranged.Goals as goal
 
 pub returns-then-had : goal.returns-then-had
-unfolding ranged
-returns-then-had c = if_true _ _ _ c.if-had.true refl
+unfolding ranged pick
+returns-then-had c = grind arith
 
-pub returns : goal.returns
-unfolding ranged
-returns c = if_false _ _ _ c.if-had.false refl
+pub returns-else-had : goal.returns-else-had
+unfolding ranged pick
+returns-else-had c = grind arith

@@ -1,16 +1,17 @@
-use mathlib.Core.Path.{sym}
-use Rattle.base.specs.Choice.{if_false, if_true}
+use Rattle.std.proofs.Common.{arith}
+use Rattle.base.specs.Choice.{pick}
 use Rattle.token_zoom.specs.Zoom.{zoom_range}
 use Rattle.token_zoom.proofs.zoom_range.Goals as goal
+use Rattle.token_zoom.proofs.zoom_range.Goals.{else-is_none-via-then-is_none+else-is_none-2, else-is_none-via-else-is_none}
 
-pub returns-then-is_no_level-2 : goal.returns-then-is_no_level-2
-unfolding zoom_range
-returns-then-is_no_level-2 c = rw (sym c.is_no_level.ensures) (if_true _ _ _ c.if-is_no_level.true (rw (sym c.is_no_level-then-is_no_level.ensures) (if_true _ _ _ c.if-is_no_level-2.true (c.lexer_error.ensures))))
-
-pub returns-then-is_no_level : goal.returns-then-is_no_level
-unfolding zoom_range
-returns-then-is_no_level c = rw (sym c.is_no_level.ensures) (if_true _ _ _ c.if-is_no_level.true (rw (sym c.is_no_level-then-is_no_level.ensures) (if_false _ _ _ c.if-is_no_level-2.false (c.ranged.ensures))))
+pub returns-then-is_none-2 : goal.returns-then-is_none-2
+unfolding zoom_range pick
+returns-then-is_none-2 c = grind arith
 
 pub returns : goal.returns
-unfolding zoom_range
-returns c = rw (sym c.is_no_level.ensures) (if_false _ _ _ c.if-is_no_level.false (c.ranged-2.ensures))
+unfolding zoom_range pick
+returns c =
+    elim c.else-is_none.branch [
+      | else-is_none-via-then-is_none+else-is_none-2 w ↦ grind arith
+      | else-is_none-via-else-is_none w ↦ grind arith
+    ]

@@ -4,14 +4,14 @@ use lib.ListN.{length}
 use mathlib.Core.Path.{subst}
 use Rattle.walk.proofs.finish_maps.Goals as goal
 
-pub returns-in-Refused : goal.returns-in-Refused
-returns-in-Refused c = let a = c.args in record {
+pub returns-in-Err : goal.returns-in-Err
+returns-in-Err c = let a = c.args in record {
   t_after = finish_refused a.multipolygons a.place _ a.t.now _ _ _
-      c.in-Refused.is c.of_entity.ensures
+      c.in-Err.is c.of_entity.ensures
       (zeroed (length a.t.now) _ c.zero_words.ensures c.requires.0);
   few = tt;
 }
 
-pub returns-in-Now : goal.returns-in-Now
-returns-in-Now c = let a = c.args in
-    record { t_after = finish_going a.multipolygons a.place _ a.t.now a.t.now _ c.in-Now.is; few = subst IsBounded c.in-Now.is c.requires.1 }
+pub returns-in-Ok : goal.returns-in-Ok
+returns-in-Ok c = let a = c.args in
+    record { t_after = finish_going a.multipolygons a.place _ a.t.now a.t.now _ c.in-Ok.is; few = subst IsBounded c.in-Ok.is c.requires.1 }

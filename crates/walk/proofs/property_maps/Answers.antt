@@ -14,19 +14,19 @@ returns-then-not-is_sound c = let a = c.args in record {
   few = tt;
 }
 
-pub returns-in-BadEntity : goal.returns-in-BadEntity
-returns-in-BadEntity c = let a = c.args in record {
+pub returns-in-Err : goal.returns-in-Err
+returns-in-Err c = let a = c.args in record {
   maps_after = maps_bad a.bundle.now a.rules.now a.selectors.now a.tests.now a.properties.now
       a.numbers.now a.n a.zoom a.entity.now _ c.is_sound.ensures (ap not c.if-not-is_sound.false) _
-      c.single_entity.ensures _ (zeroed (length a.maps.now) _ c.zero_words-in-BadEntity.ensures (omega arith)) _
-      c.in-BadEntity.is;
+      c.single_entity.ensures _ (zeroed (length a.maps.now) _ c.zero_words-in-Err.ensures (omega arith)) _
+      c.in-Err.is;
   few = tt;
 }
 
-pub returns-in-OneEntity : goal.returns-in-OneEntity
-returns-in-OneEntity c = let a = c.args in record {
+pub returns-in-Ok : goal.returns-in-Ok
+returns-in-Ok c = let a = c.args in record {
   maps_after = maps_walked a.bundle.now a.rules.now a.selectors.now a.tests.now a.properties.now
       a.numbers.now a.n a.zoom a.entity.now _ c.is_sound.ensures (ap not c.if-not-is_sound.false) _
-      c.single_entity.ensures _ c.in-OneEntity.is _ c.walk_entity.ensures.maps_after;
+      c.single_entity.ensures _ c.in-Ok.is _ c.walk_entity.ensures.maps_after;
   few = c.walk_entity.ensures.few;
 }

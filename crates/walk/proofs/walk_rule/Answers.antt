@@ -1,7 +1,9 @@
 use Prim.Native.Nat.{◌-◌}
 use native.Mathlib.Omega.{arith}
-use mathlib.Core.Path.{sym, ◌∙◌, subst}
+use mathlib.Core.Path.{refl, sym, ◌∙◌, subst}
 use borrow.Author.Rules.{rules}
+use Rattle.base.proofs.Options.{handed_on}
+use Rattle.walk.proofs.LayerLaws.{told_stop}
 use Rattle.walk.proofs.WalkLaws.{selectors_end, selectors_stop, selectors_next, rule_is}
 use Rattle.walk.specs.Run.{IsBounded}
 use Rattle.walk.proofs.walk_rule.Goals as goal
@@ -15,28 +17,29 @@ loop-s-init c = let a = c.args in
           c.word_at-end.ensures c.word_at-from.ensures c.word_at-to.ensures,
     )
 
-pub returns-in-Refused : goal.returns-in-Refused
-returns-in-Refused c = let loop = c.loop-s in record {
-  t_after = sym
+pub returns-in_err-m : goal.returns-in_err-m
+returns-in_err-m c = let loop = c.loop-s in record {
+  t_after = told_stop _ _ _ _ refl (handed_on _ c.from_residual.ensures)
+      ∙ sym
       (selectors_stop _ _ _ loop.t loop.m loop.s
       c.word_at-end.result
       _
       c.loop-s-test.true _ _
-      c.visit.ensures.t_after _ c.in-Refused.is)
+      c.visit.ensures.t_after _ c.in_err-m.was)
       ∙ loop.invariant.2;
-  IsBounded = tt;
+  IsBounded = subst IsBounded (sym (handed_on _ c.from_residual.ensures)) tt;
 }
 
 pub loop-s-preserved : goal.loop-s-preserved
 loop-s-preserved c = let loop = c.loop-s in (
   omega (arith, loop.invariant.0),
-  subst IsBounded c.in-Now.is c.visit.ensures.IsBounded,
+  subst IsBounded c.in_ok-m.was c.visit.ensures.IsBounded,
   sym
       (selectors_next _ _ _ loop.t loop.m loop.s
       c.word_at-end.result
       _
       c.loop-s-test.true _ _
-      c.visit.ensures.t_after _ c.in-Now.is)
+      c.visit.ensures.t_after _ c.in_ok-m.was)
       ∙ loop.invariant.2,
 )
 

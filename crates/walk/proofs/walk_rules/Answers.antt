@@ -1,10 +1,11 @@
 use Prim.Native.Nat.{◌-◌}
 use native.Mathlib.Omega.{arith}
-use mathlib.Core.Path.{sym, ◌∙◌, ap, subst}
+use mathlib.Core.Path.{refl, sym, ◌∙◌, ap, subst}
 use borrow.Author.Rules.{rules}
 use Rattle.decode.specs.Decode.{name_at}
+use Rattle.base.proofs.Options.{handed_on}
 use Rattle.walk.proofs.WalkLaws.{rules_end, rules_stop, rules_next}
-use Rattle.walk.proofs.LayerLaws.{less_zero}
+use Rattle.walk.proofs.LayerLaws.{less_zero, told_stop}
 use Rattle.walk.specs.Selectors.{layer_in, verdict_in}
 use Rattle.walk.specs.Run.{rules_of, IsBounded}
 use Rattle.walk.proofs.walk_rules.Goals as goal
@@ -19,26 +20,27 @@ loop-r-init c = let a = c.args in (
       a.e) a.rules.now a.t.now 0 0) (less_zero a.total),
 )
 
-pub returns-in-Refused : goal.returns-in-Refused
-returns-in-Refused c = let a = c.args in
+pub returns-in_err-m : goal.returns-in_err-m
+returns-in_err-m c = let a = c.args in
     let loop = c.loop-r in record {
-      t_after = sym
+      t_after = told_stop _ _ _ _ refl (handed_on _ c.from_residual.ensures)
+          ∙ sym
           (rules_stop _ _ _ a.rules.now loop.t loop.m loop.r a.total
           c.loop-r-test.true _ _
-          c.walk_rule.ensures.t_after _ c.in-Refused.is)
+          c.walk_rule.ensures.t_after _ c.in_err-m.was)
           ∙ loop.invariant.2;
-      IsBounded = tt;
+      IsBounded = subst IsBounded (sym (handed_on _ c.from_residual.ensures)) tt;
     }
 
 pub loop-r-preserved : goal.loop-r-preserved
 loop-r-preserved c = let a = c.args in
     let loop = c.loop-r in (
       omega (arith, loop.invariant.0),
-      subst IsBounded c.in-Now.is c.walk_rule.ensures.IsBounded,
+      subst IsBounded c.in_ok-m.was c.walk_rule.ensures.IsBounded,
       sym
           (rules_next _ _ _ a.rules.now loop.t loop.m loop.r a.total
           c.loop-r-test.true _ _
-          c.walk_rule.ensures.t_after _ c.in-Now.is)
+          c.walk_rule.ensures.t_after _ c.in_ok-m.was)
           ∙ loop.invariant.2,
     )
 

@@ -6,6 +6,6 @@ pub returns-then-self : goal.returns-then-self
 unfolding passed pick
 returns-then-self c = simp (c.if-self.true, c.bump.ensures)
 
-pub returns : goal.returns
+pub returns-else-self : goal.returns-else-self
 unfolding passed pick
-returns c = simp (c.if-self.false, c.bump-2.ensures)
+returns-else-self c = simp (c.if-self.false, c.bump-else-self.ensures)

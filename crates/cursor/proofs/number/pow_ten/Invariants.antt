@@ -1,4 +1,3 @@
-use Prim.Native.Nat.{◌-◌}
 use Rattle.base.proofs.Loops.{Going}
 use Rattle.cursor.specs.Number.{pow_ten, pow_turn, power, one}
 use Rattle.cursor.proofs.number.pow_ten.Given as goal

@@ -7,6 +7,6 @@ pub returns-then-minus : goal.returns-then-minus
 unfolding sign
 returns-then-minus c = if_true _ _ _ c.if-minus.true refl
 
-pub returns : goal.returns
+pub returns-else-minus : goal.returns-else-minus
 unfolding sign
-returns c = if_false _ _ _ c.if-minus.false refl
+returns-else-minus c = if_false _ _ _ c.if-minus.false refl

@@ -8,6 +8,6 @@ pub returns-then-n-eq1 : goal.returns-then-n-eq1
 unfolding times_odd
 returns-then-n-eq1 c = if_true _ _ _ (eq-eqb _ _ c.if-n-eq1.true) refl
 
-pub returns : goal.returns
+pub returns-else-n-eq1 : goal.returns-else-n-eq1
 unfolding times_odd
-returns c = if_false _ _ _ (ne_eqb _ _ c.if-n-eq1.false) refl
+returns-else-n-eq1 c = if_false _ _ _ (ne_eqb _ _ c.if-n-eq1.false) refl

@@ -6,8 +6,8 @@ use Rattle.drawing.specs.Gather.{keys_at}
 use Rattle.drawing.proofs.GatherLaws.{Left}
 use Rattle.drawing.proofs.gather.gather.Given as goal
 
-abbrev pub invariant-loop-r : goal.invariant-loop-r
-invariant-loop-r l = (length l.layers ≡ 4096) ×
+abbrev pub invariant-loop-e : goal.invariant-loop-e
+invariant-loop-e l = (length l.layers ≡ 4096) ×
     (length l.zs ≡ 4096) ×
     (length l.words ≡ 20480) ×
     (l.m ≤ l.room) ×
@@ -17,5 +17,5 @@ invariant-loop-r l = (length l.layers ≡ 4096) ×
     (keys_at l.initial.layers l.initial.zs l.initial.words l.n) l.at l.place
     (keys_at l.layers l.zs l.words l.m)
 
-abbrev pub decreases-loop-r : goal.decreases-loop-r
-decreases-loop-r l = length l.s - l.at
+abbrev pub decreases-loop-e : goal.decreases-loop-e
+decreases-loop-e l = length l.s - l.at

@@ -11,8 +11,8 @@ use Rattle.properties.proofs.eval.close_form.Goals as goal
 
 pub returns-in-RightParen : goal.returns-in-RightParen
 unfolding sign_form token_of is_sign
-returns-in-RightParen c = λ bundle. form_as (sign_form right_paren c.args.step c.args.x) bundle c.in-RightParen.is refl
+returns-in-RightParen c = λ bundle. form_as (sign_form right_paren c.args.next) bundle c.in-RightParen.is refl
 
 pub returns-in_default : goal.returns-in_default
 unfolding sign_form
-returns-in_default c = λ bundle. cond_false _ _ _ (not_sign bundle (8 ∷ []) _ (opened c.in_default.in_default-own.keys2) right_paren tt) c.failed.ensures
+returns-in_default c = λ bundle. cond_false _ _ _ (not_sign bundle (8 ∷ []) _ (opened c.in_default.in_default-own.keys2) right_paren tt) refl

@@ -1,36 +1,40 @@
 use Rattle.properties.specs.Eval.{form_next}
-use Rattle.input.proofs.TokenLaws.{cond_true, cond_false}
-use borrow.Author.Tests.{eq-eqb, ne_eqb}
+use Rattle.properties.proofs.FormLaws.{next_as}
+use mathlib.Core.Path.{refl}
 use Rattle.properties.proofs.eval.form_next.Goals as goal
 
-pub returns-then-f-eq0 : goal.returns-then-f-eq0
+pub returns-in-Empty : goal.returns-in-Empty
 unfolding form_next
-returns-then-f-eq0 c = cond_true _ _ _ (eq-eqb _ _ c.if-f-eq0.true) (c.open_form.ensures _)
+returns-in-Empty c = next_as _ c.in-Empty.is (c.open_form.ensures _)
 
-pub returns-then-f-eq1 : goal.returns-then-f-eq1
+pub returns-in-Opening : goal.returns-in-Opening
 unfolding form_next
-returns-then-f-eq1 c = cond_false _ _ _ (ne_eqb _ _ c.if-f-eq0.false) (cond_true _ _ _ (eq-eqb _ _ c.if-f-eq1.true) c.prop_form.ensures)
+returns-in-Opening c = next_as _ c.in-Opening.is c.prop_form.ensures
 
-pub returns-then-f-eq2 : goal.returns-then-f-eq2
+pub returns-in-PropName : goal.returns-in-PropName
 unfolding form_next
-returns-then-f-eq2 c = cond_false _ _ _ (ne_eqb _ _ c.if-f-eq0.false) (cond_false _ _ _ (ne_eqb _ _ c.if-f-eq1.false) (cond_true _ _ _ (eq-eqb _ _ c.if-f-eq2.true) (c.open_form-then-f-eq2.ensures _)))
+returns-in-PropName c = next_as _ c.in-PropName.is (c.open_form-in-PropName.ensures _)
 
-pub returns-then-f-eq3 : goal.returns-then-f-eq3
+pub returns-in-PropOpening : goal.returns-in-PropOpening
 unfolding form_next
-returns-then-f-eq3 c = cond_false _ _ _ (ne_eqb _ _ c.if-f-eq0.false) (cond_false _ _ _ (ne_eqb _ _ c.if-f-eq1.false) (cond_false _ _ _ (ne_eqb _ _ c.if-f-eq2.false) (cond_true _ _ _ (eq-eqb _ _ c.if-f-eq3.true) c.width_form.ensures)))
+returns-in-PropOpening c = next_as _ c.in-PropOpening.is c.width_form.ensures
 
-pub returns-then-f-eq4 : goal.returns-then-f-eq4
+pub returns-in-WidthName : goal.returns-in-WidthName
 unfolding form_next
-returns-then-f-eq4 c = cond_false _ _ _ (ne_eqb _ _ c.if-f-eq0.false) (cond_false _ _ _ (ne_eqb _ _ c.if-f-eq1.false) (cond_false _ _ _ (ne_eqb _ _ c.if-f-eq2.false) (cond_false _ _ _ (ne_eqb _ _ c.if-f-eq3.false) (cond_true _ _ _ (eq-eqb _ _ c.if-f-eq4.true) (c.close_form.ensures _)))))
+returns-in-WidthName c = next_as _ c.in-WidthName.is (c.close_form.ensures _)
 
-pub returns-then-f-eq5 : goal.returns-then-f-eq5
+pub returns-in-PropClosing : goal.returns-in-PropClosing
 unfolding form_next
-returns-then-f-eq5 c = cond_false _ _ _ (ne_eqb _ _ c.if-f-eq0.false) (cond_false _ _ _ (ne_eqb _ _ c.if-f-eq1.false) (cond_false _ _ _ (ne_eqb _ _ c.if-f-eq2.false) (cond_false _ _ _ (ne_eqb _ _ c.if-f-eq3.false) (cond_false _ _ _ (ne_eqb _ _ c.if-f-eq4.false) (cond_true _ _ _ (eq-eqb _ _ c.if-f-eq5.true) (c.last_form.ensures _))))))
+returns-in-PropClosing c = next_as _ c.in-PropClosing.is (c.last_form.ensures _)
 
-pub returns-then-f-eq6 : goal.returns-then-f-eq6
+pub returns-in-Increment : goal.returns-in-Increment
 unfolding form_next
-returns-then-f-eq6 c = cond_false _ _ _ (ne_eqb _ _ c.if-f-eq0.false) (cond_false _ _ _ (ne_eqb _ _ c.if-f-eq1.false) (cond_false _ _ _ (ne_eqb _ _ c.if-f-eq2.false) (cond_false _ _ _ (ne_eqb _ _ c.if-f-eq3.false) (cond_false _ _ _ (ne_eqb _ _ c.if-f-eq4.false) (cond_false _ _ _ (ne_eqb _ _ c.if-f-eq5.false) (cond_true _ _ _ (eq-eqb _ _ c.if-f-eq6.true) (c.close_form-then-f-eq6.ensures _)))))))
+returns-in-Increment c = next_as _ c.in-Increment.is (c.close_form-in-Increment.ensures _)
 
-pub returns : goal.returns
+pub returns-in-Whole : goal.returns-in-Whole
 unfolding form_next
-returns c = cond_false _ _ _ (ne_eqb _ _ c.if-f-eq0.false) (cond_false _ _ _ (ne_eqb _ _ c.if-f-eq1.false) (cond_false _ _ _ (ne_eqb _ _ c.if-f-eq2.false) (cond_false _ _ _ (ne_eqb _ _ c.if-f-eq3.false) (cond_false _ _ _ (ne_eqb _ _ c.if-f-eq4.false) (cond_false _ _ _ (ne_eqb _ _ c.if-f-eq5.false) (cond_false _ _ _ (ne_eqb _ _ c.if-f-eq6.false) c.failed.ensures))))))
+returns-in-Whole c = next_as _ c.in-Whole.is refl
+
+pub returns-in-Failed : goal.returns-in-Failed
+unfolding form_next
+returns-in-Failed c = next_as _ c.in-Failed.is refl

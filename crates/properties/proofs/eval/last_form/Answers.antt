@@ -19,4 +19,4 @@ returns-in-Number c = λ bundle. form_as last_form bundle c.in-Number.is refl
 
 pub returns-in_default : goal.returns-in_default
 unfolding last_form
-returns-in_default c = λ bundle. cond_false _ _ _ (not_sign bundle (8 ∷ 3 ∷ []) _ (opened c.in_default.in_default-own.keys3) right_paren tt) (not_number_lem bundle (8 ∷ 3 ∷ []) _ (opened c.in_default.in_default-own.keys3) (Is _) _ _ tt c.failed.ensures)
+returns-in_default c = λ bundle. cond_false _ _ _ (not_sign bundle (8 ∷ 3 ∷ []) _ (opened c.in_default.in_default-own.keys3) right_paren tt) (not_number_lem bundle (8 ∷ 3 ∷ []) _ (opened c.in_default.in_default-own.keys3) (Is _) _ _ tt refl)

@@ -4,6 +4,7 @@ use Rattle.input.proofs.TokenLaws.{not_identifier}
 use Rattle.input.specs.Text.{token_of}
 use Rattle.grammar.specs.View.{on_identifier}
 use mathlib.Core.List.{[], ◌∷◌}
+use mathlib.Core.Path.{refl}
 use borrow.Enum.Refused.{opened}
 use Rattle.properties.proofs.eval.prop_form.Goals as goal
 
@@ -13,4 +14,4 @@ returns-in-Identifier c = form_as prop_form _ c.in-Identifier.is c.word_form.ens
 
 pub returns-in_default : goal.returns-in_default
 unfolding prop_form
-returns-in_default c = not_identifier _ (1 ∷ []) _ (opened c.in_default.in_default-own.keys2) (Is _) _ _ tt c.failed.ensures
+returns-in_default c = not_identifier _ (1 ∷ []) _ (opened c.in_default.in_default-own.keys2) (Is _) _ _ tt refl

@@ -10,19 +10,20 @@ use mathlib.Core.List.{[], ◌∷◌}
 use mathlib.Core.Path.{refl}
 use borrow.Enum.Refused.{opened}
 use Rattle.properties.proofs.eval.read_form.Goals as goal
+use Rattle.base.proofs.Options.{handed_on}
 
-pub loop-e-init : goal.loop-e-init
-loop-e-init c = (omega arith, λ r q. q)
+pub loop-t-init : goal.loop-t-init
+loop-t-init c = (omega arith, λ r q. q)
 
-pub returns-in-NoToken : goal.returns-in-NoToken
-returns-in-NoToken c = c.loop-e.invariant.1 _ (form_none _ _ _ _ _ (via c.read_mandatory_token.ensures c.in-NoToken.is))
+pub returns-in_err-t : goal.returns-in_err-t
+returns-in_err-t c = rw (handed_on _ c.from_residual.ensures) (c.loop-t.invariant.1 _ (form_none _ _ _ _ _ (via c.read_mandatory_token.ensures c.in_err-t.was)))
 
 pub returns-in-SemiColon : goal.returns-in-SemiColon
 unfolding token_of is_sign
-returns-in-SemiColon c = c.loop-e.invariant.1 _ (form_last _ _ _ _ _ (via c.read_mandatory_token.ensures c.in-Got.is) (sign_known _ semi_colon c.in-SemiColon.is refl) c.loop-e.invariant.0)
+returns-in-SemiColon c = c.loop-t.invariant.1 _ (form_last _ _ _ _ _ (via c.read_mandatory_token.ensures c.in_ok-t.was) (sign_known _ semi_colon c.in-SemiColon.is refl) c.loop-t.invariant.0)
 
-pub loop-e-smaller : goal.loop-e-smaller
-loop-e-smaller c = mandatory_moves _ _ _ _ _ _ (via c.read_mandatory_token.ensures c.in-Got.is)
+pub loop-t-smaller : goal.loop-t-smaller
+loop-t-smaller c = mandatory_moves _ _ _ _ _ _ (via c.read_mandatory_token.ensures c.in_ok-t.was)
 
-pub loop-e-preserved : goal.loop-e-preserved
-loop-e-preserved c = let h = via c.read_mandatory_token.ensures c.in-Got.is in (omega (arith, mandatory_moves _ _ _ _ _ _ h, c.loop-e.invariant.0), λ r q. c.loop-e.invariant.1 r (form_more _ _ _ _ _ r h (not_sign _ (24 ∷ []) _ (opened c.in_default.in_default-own.keys2) semi_colon tt) c.form_next-f.ensures q))
+pub loop-t-preserved : goal.loop-t-preserved
+loop-t-preserved c = let h = via c.read_mandatory_token.ensures c.in_ok-t.was in (omega (arith, mandatory_moves _ _ _ _ _ _ h, c.loop-t.invariant.0), λ r q. c.loop-t.invariant.1 r (form_more _ _ _ _ _ r h (not_sign _ (24 ∷ []) _ (opened c.in_default.in_default-own.keys2) semi_colon tt) c.form_next-f.ensures q))

@@ -1,12 +1,15 @@
-use Rattle.properties.specs.declared.Formed.{Formed}
 use Rattle.properties.specs.Eval.{FormsFrom}
 use Rattle.input.specs.Text.{left}
 use Prim.Native.Nat.{◌≤◌}
 use Rattle.properties.proofs.eval.read_form.Given as goal
+use Rattle.base.specs.declared.refusal.Refusal.{Refusal}
+use Rattle.cursor.specs.declared.Cursor.{Cursor}
+use Rattle.properties.specs.declared.Form.{Form}
+use Rattle.std.specs.Prelude.{Result}
 
-abbrev pub invariant-loop-e : goal.invariant-loop-e
-invariant-loop-e l = (left l.bundle l.source l.at ≤ left l.bundle l.source l.initial.at)
-    × ((r : Formed) → FormsFrom l.bundle l.source (left l.bundle l.source l.initial.at) l.f l.at r → FormsFrom l.bundle l.source (left l.bundle l.source l.initial.at) l.initial.f l.initial.at r)
+abbrev pub invariant-loop-t : goal.invariant-loop-t
+invariant-loop-t l = (left l.bundle l.source l.at ≤ left l.bundle l.source l.initial.at)
+    × ((r : Result (Form × Cursor) Refusal) → FormsFrom l.bundle l.source (left l.bundle l.source l.initial.at) l.f l.at r → FormsFrom l.bundle l.source (left l.bundle l.source l.initial.at) l.initial.f l.initial.at r)
 
-abbrev pub decreases-loop-e : goal.decreases-loop-e
-decreases-loop-e l = left l.bundle l.source l.at
+abbrev pub decreases-loop-t : goal.decreases-loop-t
+decreases-loop-t l = left l.bundle l.source l.at

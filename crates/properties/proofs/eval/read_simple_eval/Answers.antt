@@ -4,15 +4,16 @@ use Rattle.properties.specs.Answers.{Values, bad_value}
 use Rattle.grammar.specs.Reader.{read_simple_eval}
 use mathlib.Core.Path.{refl}
 use Rattle.properties.proofs.eval.read_simple_eval.Goals as goal
+use Rattle.base.proofs.Options.{handed_on}
 
-pub returns-then-f-eq7 : goal.returns-then-f-eq7
+pub returns-in_err-f : goal.returns-in_err-f
 unfolding read_simple_eval
-returns-then-f-eq7 c = λ τ k h. eval_made (Values _ _ _ _ _) _ _ _ _ _ (c.read_form.ensures _ k h) c.in-IsForm.is c.if-f-eq7.true (λ l. widen_value l (c.store_delta.ensures _ τ))
+returns-in_err-f c = rw (handed_on _ c.from_residual.ensures) (λ τ k h. eval_refused (Values _ _ _ _ _) _ _ _ _ _ (c.read_form.ensures _ k h) c.in_err-f.was (bad_value refl))
 
-pub returns-in-NoForm : goal.returns-in-NoForm
+pub returns-in-Whole : goal.returns-in-Whole
 unfolding read_simple_eval
-returns-in-NoForm c = λ τ k h. eval_refused (Values _ _ _ _ _) _ _ _ _ _ (c.read_form.ensures _ k h) c.in-NoForm.is (bad_value refl)
+returns-in-Whole c = λ τ k h. eval_made (Values _ _ _ _ _) _ _ _ _ _ (c.read_form.ensures _ k h) c.in_ok-f.was c.in-Whole.is (λ l. widen_value l (c.store_delta.ensures _ τ))
 
-pub returns-else-f-eq7 : goal.returns-else-f-eq7
+pub returns-in_default : goal.returns-in_default
 unfolding read_simple_eval
-returns-else-f-eq7 c = λ τ k h. eval_unmade (Values _ _ _ _ _) _ _ _ _ _ (c.read_form.ensures _ k h) c.in-IsForm.is c.if-f-eq7.false (bad_value c.refuse.ensures)
+returns-in_default c = λ τ k h. eval_unmade (Values _ _ _ _ _) _ _ _ _ _ (c.read_form.ensures _ k h) c.in_ok-f.was c.in_default.not-Whole (bad_value c.refuse.ensures)

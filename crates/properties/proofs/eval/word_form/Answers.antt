@@ -10,4 +10,4 @@ returns-then-same_bytes c = cond_true _ _ _ (same_part _ _ _ c.same_bytes.ensure
 
 pub returns : goal.returns
 unfolding word_form
-returns c = cond_false _ _ _ (same_part _ _ _ c.same_bytes.ensures c.part.ensures c.if-same_bytes.false) c.failed.ensures
+returns c = cond_false _ _ _ (same_part _ _ _ c.same_bytes.ensures c.part.ensures c.if-same_bytes.false) refl

@@ -1,12 +1,14 @@
 use Rattle.rules.specs.Kind.{SkipsFrom}
-use Rattle.input.specs.declared.Past.{Past}
 use Rattle.input.specs.Text.{left}
 use Prim.Native.Nat.{◌≤◌}
 use Rattle.rules.proofs.kind.skip_colors.Given as goal
+use Rattle.base.specs.declared.refusal.Refusal.{Refusal}
+use Rattle.cursor.specs.declared.Cursor.{Cursor}
+use Rattle.std.specs.Prelude.{Result}
 
-abbrev pub invariant-loop-e : goal.invariant-loop-e
-invariant-loop-e l = (left l.bundle l.source l.at ≤ left l.bundle l.source l.initial.at)
-    × ((r : Past) → SkipsFrom l.bundle l.source (left l.bundle l.source l.initial.at) l.at r → SkipsFrom l.bundle l.source (left l.bundle l.source l.initial.at) l.initial.at r)
+abbrev pub invariant-loop-t : goal.invariant-loop-t
+invariant-loop-t l = (left l.bundle l.source l.at ≤ left l.bundle l.source l.initial.at)
+    × ((r : Result Cursor Refusal) → SkipsFrom l.bundle l.source (left l.bundle l.source l.initial.at) l.at r → SkipsFrom l.bundle l.source (left l.bundle l.source l.initial.at) l.initial.at r)
 
-abbrev pub decreases-loop-e : goal.decreases-loop-e
-decreases-loop-e l = left l.bundle l.source l.at
+abbrev pub decreases-loop-t : goal.decreases-loop-t
+decreases-loop-t l = left l.bundle l.source l.at

@@ -1,30 +1,31 @@
 use Rattle.style.specs.Get.{dashes_of}
 use Rattle.style.proofs.get.dashes_of.Goals as goal
+use Rattle.std.proofs.Common.{◌∙◌}
 
-pub returns-in-Missing : goal.returns-in-Missing
+pub returns-in_err-v : goal.returns-in_err-v
 unfolding dashes_of
-returns-in-Missing c = simp c.in-Missing.is
+returns-in_err-v c = c.from_residual.ensures ∙ simp c.in_err-v.was
 
 pub returns-in-NoValue : goal.returns-in-NoValue
 unfolding dashes_of
-returns-in-NoValue c = simp (c.in-NoValue.is, c.in-Has.is)
+returns-in-NoValue c = simp (c.in-NoValue.is, c.in_ok-v.was)
 
 pub returns-in-Identifier : goal.returns-in-Identifier
 unfolding dashes_of
-returns-in-Identifier c = simp (c.in-Identifier.is, c.in-Has.is)
+returns-in-Identifier c = simp (c.in-Identifier.is, c.in_ok-v.was)
 
 pub returns-in-Text : goal.returns-in-Text
 unfolding dashes_of
-returns-in-Text c = simp (c.in-Text.is, c.in-Has.is)
+returns-in-Text c = simp (c.in-Text.is, c.in_ok-v.was)
 
 pub returns-in-Shade : goal.returns-in-Shade
 unfolding dashes_of
-returns-in-Shade c = simp (c.in-Shade.is, c.in-Has.is)
+returns-in-Shade c = simp (c.in-Shade.is, c.in_ok-v.was)
 
 pub returns-in-Numbers : goal.returns-in-Numbers
 unfolding dashes_of
-returns-in-Numbers c = simp (c.in-Numbers.is, c.in-Has.is)
+returns-in-Numbers c = simp (c.in-Numbers.is, c.in_ok-v.was)
 
 pub returns-in-WidthDelta : goal.returns-in-WidthDelta
 unfolding dashes_of
-returns-in-WidthDelta c = simp (c.in-WidthDelta.is, c.in-Has.is)
+returns-in-WidthDelta c = simp (c.in-WidthDelta.is, c.in_ok-v.was)

@@ -1,54 +1,31 @@
 use Rattle.style.specs.Get.{number_of}
 use Rattle.style.proofs.get.number_of.Goals as goal
+use Rattle.std.proofs.Common.{◌∙◌}
 
-pub returns-in-Missing : goal.returns-in-Missing
+pub returns-in_err-v : goal.returns-in_err-v
 unfolding number_of
-returns-in-Missing c = simp (← c.absent.ensures, c.in-Missing.is)
+returns-in_err-v c = c.from_residual.ensures ∙ simp c.in_err-v.was
 
 pub returns-in-NoValue : goal.returns-in-NoValue
 unfolding number_of
-returns-in-NoValue c = simp (
-  ← c.absent-in-NoValue.ensures,
-  c.in-NoValue.is,
-  c.in-Has.is,
-)
+returns-in-NoValue c = simp (c.in-NoValue.is, c.in_ok-v.was)
 
 pub returns-in-Identifier : goal.returns-in-Identifier
 unfolding number_of
-returns-in-Identifier c = simp (
-  ← c.absent-in-Identifier.ensures,
-  c.in-Identifier.is,
-  c.in-Has.is,
-)
+returns-in-Identifier c = simp (c.in-Identifier.is, c.in_ok-v.was)
 
 pub returns-in-Text : goal.returns-in-Text
 unfolding number_of
-returns-in-Text c = simp (
-  ← c.absent-in-Text.ensures,
-  c.in-Text.is,
-  c.in-Has.is,
-)
+returns-in-Text c = simp (c.in-Text.is, c.in_ok-v.was)
 
 pub returns-in-Shade : goal.returns-in-Shade
 unfolding number_of
-returns-in-Shade c = simp (
-  ← c.absent-in-Shade.ensures,
-  c.in-Shade.is,
-  c.in-Has.is,
-)
+returns-in-Shade c = simp (c.in-Shade.is, c.in_ok-v.was)
 
 pub returns-in-Numbers : goal.returns-in-Numbers
 unfolding number_of
-returns-in-Numbers c = simp (
-  ← c.one_of.ensures,
-  c.in-Numbers.is,
-  c.in-Has.is,
-)
+returns-in-Numbers c = simp (← c.one_of.ensures, c.in-Numbers.is, c.in_ok-v.was)
 
 pub returns-in-WidthDelta : goal.returns-in-WidthDelta
 unfolding number_of
-returns-in-WidthDelta c = simp (
-  ← c.absent-in-WidthDelta.ensures,
-  c.in-WidthDelta.is,
-  c.in-Has.is,
-)
+returns-in-WidthDelta c = simp (c.in-WidthDelta.is, c.in_ok-v.was)

@@ -1,13 +1,10 @@
+-- The tag `layer`, absent or there.
+use Rattle.std.proofs.Common.{◌∙◌}
 use Rattle.styles.proofs.StylesLaws.{layer_absent, layer_there}
 use Rattle.styles.proofs.parts.tag_layer.Goals as goal
 
-pub returns-in-Absent : goal.returns-in-Absent
-returns-in-Absent c = let a =
-    c.args in layer_absent a.entity.now a.e _
-    c.get_by_key.ensures c.in-Absent.is
+pub returns-in_err-v : goal.returns-in_err-v
+returns-in_err-v c = c.from_residual.ensures ∙ layer_absent c.args.entity.now c.args.e _ c.get_by_key.ensures c.in_err-v.was
 
-pub returns-in-Value : goal.returns-in-Value
-returns-in-Value c = let a = c.args in
-    layer_there a.entity.now a.e _
-    c.get_by_key.ensures _ c.in-Value.is
-    _ c.part.ensures _ c.layer_tag.ensures
+pub returns : goal.returns
+returns c = layer_there c.args.entity.now c.args.e _ c.get_by_key.ensures _ c.in_ok-v.was _ c.part.ensures _ c.layer_tag.ensures

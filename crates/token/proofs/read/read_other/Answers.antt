@@ -1,3 +1,5 @@
+use Rattle.std.specs.Prelude.{Err}
+use mathlib.Core.Path.{ap}
 use borrow.Author.Tests.{eq-eqb, ne_eqb}
 use Rattle.base.specs.Choice.{if_false, if_true}
 use Rattle.token.specs.Read.{read_other}
@@ -17,4 +19,4 @@ returns-then-ch-eq35 c = if_false _ _ _ (ne_eqb _ _ c.if-ch-eq45.false) (if_fals
 
 pub returns : goal.returns
 unfolding read_other
-returns c = if_false _ _ _ (ne_eqb _ _ c.if-ch-eq45.false) (if_false _ _ _ (ne_eqb _ _ c.if-ch-eq124.false) (if_false _ _ _ (ne_eqb _ _ c.if-ch-eq35.false) (c.lexer_error.ensures)))
+returns c = if_false _ _ _ (ne_eqb _ _ c.if-ch-eq45.false) (if_false _ _ _ (ne_eqb _ _ c.if-ch-eq124.false) (if_false _ _ _ (ne_eqb _ _ c.if-ch-eq35.false) (ap Err c.lexer_error.ensures)))

@@ -1,4 +1,6 @@
-use Prim.Native.Nat.{◌-◌}
+use Rattle.std.specs.Prelude.{Err}
+use mathlib.Core.Path.{ap}
+use Rattle.base.specs.Turns.{done}
 use native.Mathlib.Omega.{arith}
 use mathlib.Core.Path.{refl, sym}
 use borrow.Author.Tests.{eq-eqb, ne_eqb}
@@ -14,7 +16,7 @@ unfolding read_quoted
 loop-e-init c = going_start _ _ _ _ _ (omega arith)
 
 pub returns-in-Done : goal.returns-in-Done
-returns-in-Done c = going_done _ _ _ _ _ _ c.loop-e.invariant (sym (Next-Done _ _ _ (via c.next_char.ensures c.in-Done.is) refl))
+returns-in-Done c = going_done _ _ _ _ _ _ c.loop-e.invariant (sym (Next-Done _ _ _ (via c.next_char.ensures c.in-Done.is) (ap (λ e. done (Err e)) c.lexer_error.ensures)))
 
 pub returns-then-ch-eq34 : goal.returns-then-ch-eq34
 returns-then-ch-eq34 c = going_done _ _ _ _ _ _ c.loop-e.invariant (sym (Next-Got _ _ _ (via c.next_char.ensures c.in-Got.is) (if_true _ _ _ (eq-eqb _ _ c.if-ch-eq34.true) refl)))

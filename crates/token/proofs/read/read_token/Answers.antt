@@ -1,13 +1,13 @@
 use mathlib.Core.Path.{refl}
 use Rattle.base.specs.Choice.{via}
-use Rattle.token.specs.Elim.{PairRead-NoPair, PairRead-Pair}
 use Rattle.token.specs.Read.{read_token}
 use Rattle.token.proofs.read.read_token.Goals as goal
+use Rattle.base.specs.Option.{option_none, option_some}
 
-pub returns-in-NoPair : goal.returns-in-NoPair
+pub returns-in-None : goal.returns-in-None
 unfolding read_token
-returns-in-NoPair c = PairRead-NoPair _ _ _ (via c.read_pair.ensures c.in-NoPair.is) (c.read_single.ensures)
+returns-in-None c = option_none _ _ _ (via c.read_pair.ensures c.in-None.is) (c.read_single.ensures)
 
-pub returns-in-Pair : goal.returns-in-Pair
+pub returns-in-Some : goal.returns-in-Some
 unfolding read_token
-returns-in-Pair c = PairRead-Pair _ _ _ (via c.read_pair.ensures c.in-Pair.is) refl
+returns-in-Some c = option_some _ _ _ (via c.read_pair.ensures c.in-Some.is) refl

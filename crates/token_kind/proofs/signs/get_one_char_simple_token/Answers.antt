@@ -1,4 +1,4 @@
-use mathlib.Core.Path.{refl}
+use Rattle.std.proofs.Common.{rules}
 use borrow.Author.Tests.{ne_eqb}
 use Rattle.base.specs.Choice.{if_false, pick}
 use Rattle.token_kind.specs.Signs.{get_one_char_simple_token, first_letter}
@@ -62,4 +62,4 @@ returns-in-44 c = simp c.in-44.is
 
 pub returns-in_default : goal.returns-in_default
 unfolding get_one_char_simple_token first_letter
-returns-in_default c = if_false _ _ _ (ne_eqb _ _ c.in_default.in_default-own.rest.0.0.0.0.0.0.0.0.0.0.0.0.0.1) (if_false _ _ _ (ne_eqb _ _ c.in_default.in_default-own.rest.0.0.0.0.0.0.0.0.0.0.0.0.1) (if_false _ _ _ (ne_eqb _ _ c.in_default.in_default-own.rest.0.0.0.0.0.0.0.0.0.0.0.1) (if_false _ _ _ (ne_eqb _ _ c.in_default.in_default-own.rest.0.0.0.0.0.0.0.0.0.0.1) (if_false _ _ _ (ne_eqb _ _ c.in_default.in_default-own.rest.0.0.0.0.0.0.0.0.0.1) (if_false _ _ _ (ne_eqb _ _ c.in_default.in_default-own.rest.0.0.0.0.0.0.0.0.1) (if_false _ _ _ (ne_eqb _ _ c.in_default.in_default-own.rest.0.0.0.0.0.0.0.1) (if_false _ _ _ (ne_eqb _ _ c.in_default.in_default-own.rest.0.0.0.0.0.0.1) (if_false _ _ _ (ne_eqb _ _ c.in_default.in_default-own.rest.0.0.0.0.0.1) (if_false _ _ _ (ne_eqb _ _ c.in_default.in_default-own.rest.0.0.0.0.1) (if_false _ _ _ (ne_eqb _ _ c.in_default.in_default-own.rest.0.0.0.1) (if_false _ _ _ (ne_eqb _ _ c.in_default.in_default-own.rest.0.0.1) (if_false _ _ _ (ne_eqb _ _ c.in_default.in_default-own.rest.0.1) (if_false _ _ _ (ne_eqb _ _ c.in_default.in_default-own.rest.1) refl)))))))))))))
+returns-in_default c = search (rules, if_false, ne_eqb)

@@ -1,6 +1,5 @@
-use mathlib.Core.Path.{refl}
-use borrow.Author.Tests.{ne_eqb}
-use Rattle.base.specs.Choice.{if_false, pick}
+use Rattle.std.proofs.Common.{arith}
+use Rattle.base.specs.Choice.{pick}
 use Rattle.token_kind.specs.Signs.{sign_of_pair}
 use Rattle.token_kind.proofs.signs.sign_of_pair.Goals as goal
 
@@ -25,5 +24,5 @@ unfolding sign_of_pair pick
 returns-in-4 c = simp c.in-4.is
 
 pub returns-in_default : goal.returns-in_default
-unfolding sign_of_pair
-returns-in_default c = if_false _ _ _ (ne_eqb _ _ c.in_default.in_default-own.rest.0.0.0.0.1) (if_false _ _ _ (ne_eqb _ _ c.in_default.in_default-own.rest.0.0.0.1) (if_false _ _ _ (ne_eqb _ _ c.in_default.in_default-own.rest.0.0.1) (if_false _ _ _ (ne_eqb _ _ c.in_default.in_default-own.rest.0.1) (if_false _ _ _ (ne_eqb _ _ c.in_default.in_default-own.rest.1) refl))))
+unfolding sign_of_pair pick
+returns-in_default c = grind arith

@@ -1,9 +1,10 @@
 use Prim.Native.Nat.{◌-◌}
 use native.Mathlib.Omega.{arith}
-use mathlib.Core.Path.{sym, ◌∙◌, ap}
+use mathlib.Core.Path.{refl, sym, ◌∙◌, ap, subst}
 use Rattle.decode.specs.Decode.{name_at, places}
-use Rattle.walk.specs.Run.{assign_all}
-use Rattle.walk.proofs.LayerLaws.{all_end, all_stop, all_next, less_zero}
+use Rattle.walk.specs.Run.{assign_all, IsBounded}
+use Rattle.base.proofs.Options.{handed_on}
+use Rattle.walk.proofs.LayerLaws.{all_end, all_stop, all_next, less_zero, told_stop}
 use Rattle.walk.proofs.layers.assign_all.Goals as goal
 
 pub loop-i-init : goal.loop-i-init
@@ -16,16 +17,17 @@ loop-i-init c = let a = c.args in (
       (places a.from (a.to - a.from))) (less_zero a.m),
 )
 
-pub returns-in-Refused : goal.returns-in-Refused
-returns-in-Refused c = let loop = c.loop-i in record {
-  t_after = sym
+pub returns-in_err-assign_layer : goal.returns-in_err-assign_layer
+returns-in_err-assign_layer c = let loop = c.loop-i in record {
+  t_after = told_stop _ _ _ _ refl (handed_on _ c.from_residual.ensures)
+      ∙ sym
       (all_stop _ loop.t
       c.args.m
       loop.i _
       c.loop-i-test.true _ _
-      c.assign_layer.ensures.t_after _ c.in-Refused.is)
+      c.assign_layer.ensures.t_after _ c.in_err-assign_layer.was)
       ∙ loop.invariant.2;
-  IsBounded = tt;
+  IsBounded = subst IsBounded (sym (handed_on _ c.from_residual.ensures)) tt;
 }
 
 pub loop-i-preserved : goal.loop-i-preserved
@@ -37,7 +39,7 @@ loop-i-preserved c = let loop = c.loop-i in (
       c.args.m
       loop.i _
       c.loop-i-test.true _ _
-      c.assign_layer.ensures.t_after _ c.in-Now.is)
+      c.assign_layer.ensures.t_after _ c.in_ok-assign_layer.was)
       ∙ loop.invariant.2,
 )
 

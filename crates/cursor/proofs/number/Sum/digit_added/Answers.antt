@@ -1,12 +1,12 @@
-use mathlib.Core.Path.{refl, sym}
-use Rattle.base.specs.Choice.{if_false, if_true}
+use Rattle.std.proofs.Common.{arith}
+use Rattle.base.specs.Choice.{pick}
 use Rattle.cursor.specs.Number.{digit_added}
 use Rattle.cursor.proofs.number.Sum.digit_added.Goals as goal
 
 pub returns-then-self : goal.returns-then-self
-unfolding digit_added
-returns-then-self c = if_true _ _ _ c.if-self.true (rw (sym c.add_digit.ensures) (rw c.bump.ensures refl))
+unfolding digit_added pick
+returns-then-self c = grind arith
 
 pub returns : goal.returns
-unfolding digit_added
-returns c = if_false _ _ _ c.if-self.false (rw c.add_digit-2.ensures refl)
+unfolding digit_added pick
+returns c = grind arith

@@ -1,12 +1,12 @@
-use mathlib.Core.Path.{refl}
-use Rattle.base.specs.Choice.{if_false, if_true}
+use Rattle.std.proofs.Common.{arith}
+use Rattle.base.specs.Choice.{pick}
 use Rattle.cursor.specs.Number.{takes_dot}
 use Rattle.cursor.proofs.number.Sum.takes_dot.Goals as goal
 
-pub returns-then-self : goal.returns-then-self
-unfolding takes_dot
-returns-then-self c = if_true _ _ _ c.if-self.true refl
+pub returns-then-not-self : goal.returns-then-not-self
+unfolding takes_dot pick
+returns-then-not-self c = grind arith
 
-pub returns : goal.returns
-unfolding takes_dot
-returns c = if_false _ _ _ c.if-self.false refl
+pub returns-else-not-self : goal.returns-else-not-self
+unfolding takes_dot pick
+returns-else-not-self c = grind arith

@@ -1,0 +1,121 @@
+-- What an Option or a Result is, by cases, and what two equal ones hold.
+use Rattle.std.specs.Prelude.{◌≡◌, ℕ, Option, Some, None, Result, Ok, Err, IsErr, IsErrAnd}
+use Rattle.std.proofs.Common.{refl, ap, ◌∙◌, arith}
+use Rattle.base.specs.Option.{on_option, on_option2, on_result, on_result2}
+
+-- the two cases, each with its equation
+pub by_option : {A R : Type 0} (x : Option A) → (x ≡ None → R) → ((a : A) → x ≡ Some a → R) → R
+by_option None n f = n refl
+by_option (Some a) n f = f a refl
+
+pub by_result : {A E R : Type 0} (x : Result A E) → ((e : E) → x ≡ Err e → R) → ((a : A) → x ≡ Ok a → R) → R
+by_result (Err e) g f = g e refl
+by_result (Ok a) g f = f a refl
+
+pub by_option2 : {A B R : Type 0} (x : Option (A × B)) → (x ≡ None → R) → ((a : A) (b : B) → x ≡ Some (a, b) → R) → R
+by_option2 None n f = n refl
+by_option2 (Some (a, b)) n f = f a b refl
+
+-- what is not there is not what is there
+pub none_some : {A R : Type 0} {a : A} → ◌≡◌ {A = Option A} None (Some a) → R
+none_some e = absurd (let z : ◌≡◌ {A = ℕ} 0 1 = cc in omega arith)
+
+-- the parts of what is there, where two are equal (a tuple is no constructor, so `cc` does not take it apart)
+pub some2_first : {A B : Type 0} {a a' : A} {b b' : B} → ◌≡◌ {A = Option (A × B)} (Some (a, b)) (Some (a', b')) → a ≡ a'
+unfolding on_option
+some2_first {a = a} e = ap (λ o. on_option o a (λ p. p.0)) e
+
+pub some2_second : {A B : Type 0} {a a' : A} {b b' : B} → ◌≡◌ {A = Option (A × B)} (Some (a, b)) (Some (a', b')) → b ≡ b'
+unfolding on_option
+some2_second {b = b} e = ap (λ o. on_option o b (λ p. p.1)) e
+
+pub some3_first : {A B C : Type 0} {a a' : A} {b b' : B} {c c' : C} → ◌≡◌ {A = Option (A × B × C)} (Some (a, b, c)) (Some (a', b', c')) → a ≡ a'
+unfolding on_option
+some3_first {a = a} e = ap (λ o. on_option o a (λ p. p.0)) e
+
+pub some3_second : {A B C : Type 0} {a a' : A} {b b' : B} {c c' : C} → ◌≡◌ {A = Option (A × B × C)} (Some (a, b, c)) (Some (a', b', c')) → b ≡ b'
+unfolding on_option
+some3_second {b = b} e = ap (λ o. on_option o b (λ p. p.1)) e
+
+pub some3_third : {A B C : Type 0} {a a' : A} {b b' : B} {c c' : C} → ◌≡◌ {A = Option (A × B × C)} (Some (a, b, c)) (Some (a', b', c')) → c ≡ c'
+unfolding on_option
+some3_third {c = c} e = ap (λ o. on_option o c (λ p. p.2)) e
+
+pub ok2_first : {A B E : Type 0} {a a' : A} {b b' : B} → ◌≡◌ {A = Result (A × B) E} (Ok (a, b)) (Ok (a', b')) → a ≡ a'
+unfolding on_result
+ok2_first {a = a} e = ap (λ o. on_result o (λ _. a) (λ p. p.0)) e
+
+pub ok2_second : {A B E : Type 0} {a a' : A} {b b' : B} → ◌≡◌ {A = Result (A × B) E} (Ok (a, b)) (Ok (a', b')) → b ≡ b'
+unfolding on_result
+ok2_second {b = b} e = ap (λ o. on_result o (λ _. b) (λ p. p.1)) e
+
+pub ok3_first : {A B C E : Type 0} {a a' : A} {b b' : B} {c c' : C} → ◌≡◌ {A = Result (A × B × C) E} (Ok (a, b, c)) (Ok (a', b', c')) → a ≡ a'
+unfolding on_result
+ok3_first {a = a} e = ap (λ o. on_result o (λ _. a) (λ p. p.0)) e
+
+pub ok3_second : {A B C E : Type 0} {a a' : A} {b b' : B} {c c' : C} → ◌≡◌ {A = Result (A × B × C) E} (Ok (a, b, c)) (Ok (a', b', c')) → b ≡ b'
+unfolding on_result
+ok3_second {b = b} e = ap (λ o. on_result o (λ _. b) (λ p. p.1)) e
+
+pub ok3_third : {A B C E : Type 0} {a a' : A} {b b' : B} {c c' : C} → ◌≡◌ {A = Result (A × B × C) E} (Ok (a, b, c)) (Ok (a', b', c')) → c ≡ c'
+unfolding on_result
+ok3_third {c = c} e = ap (λ o. on_result o (λ _. c) (λ p. p.2)) e
+
+pub ok4_first : {A B C D E : Type 0} {a a' : A} {b b' : B} {c c' : C} {d d' : D} → ◌≡◌ {A = Result (A × B × C × D) E} (Ok (a, b, c, d)) (Ok (a', b', c', d')) → a ≡ a'
+unfolding on_result
+ok4_first {a = a} e = ap (λ o. on_result o (λ _. a) (λ p. p.0)) e
+
+pub ok4_second : {A B C D E : Type 0} {a a' : A} {b b' : B} {c c' : C} {d d' : D} → ◌≡◌ {A = Result (A × B × C × D) E} (Ok (a, b, c, d)) (Ok (a', b', c', d')) → b ≡ b'
+unfolding on_result
+ok4_second {b = b} e = ap (λ o. on_result o (λ _. b) (λ p. p.1)) e
+
+pub ok4_third : {A B C D E : Type 0} {a a' : A} {b b' : B} {c c' : C} {d d' : D} → ◌≡◌ {A = Result (A × B × C × D) E} (Ok (a, b, c, d)) (Ok (a', b', c', d')) → c ≡ c'
+unfolding on_result
+ok4_third {c = c} e = ap (λ o. on_result o (λ _. c) (λ p. p.2)) e
+
+pub ok4_fourth : {A B C D E : Type 0} {a a' : A} {b b' : B} {c c' : C} {d d' : D} → ◌≡◌ {A = Result (A × B × C × D) E} (Ok (a, b, c, d)) (Ok (a', b', c', d')) → d ≡ d'
+unfolding on_result
+ok4_fourth {d = d} e = ap (λ o. on_result o (λ _. d) (λ p. p.3)) e
+
+-- what a `?` hands on
+pub handed_on : {A E : Type 0} (r : Result A E) {e : E} → IsErr r × IsErrAnd r (λ x. x ≡ e) → r ≡ Err e
+handed_on (Err x) h = ap Err h.1
+handed_on (Ok x) h = absurd h.1
+
+-- what is no Some, as behind `let Some(..) = .. else`
+pub not_some : {A : Type 0} (x : Option A) → ((a : A) → x ≡ Some a → ⊥) → x ≡ None
+not_some None h = refl
+not_some (Some a) h = absurd (h a refl)
+
+-- what is behind a `?`, and what that is
+pub ok_is : {A E : Type 0} {r : Result A E} {a b : A} → r ≡ Ok a → a ≡ b → r ≡ Ok b
+ok_is e f = e ∙ ap Ok f
+
+-- what holds in each case holds of what is made of the cases
+module _ {R : Type 0} (P : R → Type 0) where
+  pub split_option :
+      {A : Type 0} (x : Option A) (n : R) (f : A → R)
+      → (x ≡ None → P n)
+      → ((a : A) → x ≡ Some a → P (f a))
+      → P (on_option x n f)
+  unfolding on_option
+  split_option None n f p q = p refl
+  split_option (Some a) n f p q = q a refl
+
+  pub split_option2 :
+      {A B : Type 0} (x : Option (A × B)) (n : R) (f : A → B → R)
+      → (x ≡ None → P n)
+      → ((a : A) (b : B) → x ≡ Some (a, b) → P (f a b))
+      → P (on_option2 x n f)
+  unfolding on_option
+  split_option2 None n f p q = p refl
+  split_option2 (Some (a, b)) n f p q = q a b refl
+
+  pub split_result2 :
+      {A B E : Type 0} (x : Result (A × B) E) (g : E → R) (f : A → B → R)
+      → ((e : E) → x ≡ Err e → P (g e))
+      → ((a : A) (b : B) → x ≡ Ok (a, b) → P (f a b))
+      → P (on_result2 x g f)
+  unfolding on_result
+  split_result2 (Err e) g f p q = p e refl
+  split_result2 (Ok (a, b)) g f p q = q a b refl
