@@ -74,12 +74,10 @@ fn print_layers<W: Write>(
     k: usize,
     line: &mut [u8],
 ) -> io::Result<()> {
-    let mut i: usize = 0;
-    while i < k {
+    for i in 0..k {
         let n = layer_line(bundle, &selectors[..], &maps[..], i, line);
         print_line(out, &line[..], n)?;
         print_properties(out, bundle, &properties[..], &maps[..], i, line)?;
-        i += 1;
     }
     Ok(())
 }
@@ -93,11 +91,9 @@ fn print_properties<W: Write>(
     line: &mut [u8],
 ) -> io::Result<()> {
     let count = property_count(maps, i) as usize;
-    let mut j: usize = 0;
-    while j < count {
+    for j in 0..count {
         let n = property_line(bundle, properties, maps, i, j, line);
         print_line(out, &line[..], n)?;
-        j += 1;
     }
     Ok(())
 }

@@ -2,93 +2,40 @@
 // prints by. It prints the number of each case that differs, then the totals.
 #![tactic(auto)]
 
-ghost use Rattle.std.specs.Prelude.{◌≡◌, ◌+◌, ◌≤◌, ◌<◌, length, IfOk, OnOk, ◌++◌, ◌∷◌, [], decimal};
-ghost use Rattle.std.specs.Io.KnownBytes.{Appends};
+ghost use Rattle.std.specs.Prelude.{◌≡◌, ◌+◌, ◌≤◌, ◌<◌, length, IfSome};
 
 use base::refusal::Refusal;
 use std::io;
-use std::io::Write;
+use stdio::cases::{case_buffer, run_all, short_at, totals};
 
 // No place of an output.
 const NOWHERE: usize = 18446744073709551615;
 
 fn main(rt: HostRuntime) -> io::Result<()> {
-    let mut cases = case_buffer();
-    let n = stdio::read_full(&mut rt.stdin(), &mut cases)?;
+    let mut room = case_buffer();
+    let n = stdio::read_full(&mut rt.stdin(), &mut room)?;
+    let cases = &room[..n];
     let mut out = rt.stdout();
-    let t = run_all(&mut out, &cases[..n])?;
-    line(&mut out, b"cases", t.run)?;
-    line(&mut out, b"mismatches", t.bad)
+    let t = run_all(&mut out, cases.len(), |at| case_at(cases, at))?;
+    totals(&mut out, t)
 }
 
-fn line<W: Write>(out: &mut W, name: &[u8], n: u64) -> io::Result<()>
-    ensures { OnOk result (Appends (W.contents out.old) (W.contents out.new) (name.now ++ (32 ∷ (decimal n ++ (10 ∷ []))))) }
-{
-    stdio::line(out, name, n)
-}
-
-// Room for all cases.
-fn case_buffer() -> [u8; 524288]
-    ensures { 524288 ≡ length result }
-{
-    [0; 524288]
-}
-
-#[derive(Clone, Copy)]
-struct Tally {
-    run: u64,
-    bad: u64,
-}
-
-fn run_all<W: Write>(out: &mut W, s: &[u8]) -> io::Result<Tally> {
-    let mut at: usize = 0;
-    let mut run: u64 = 0;
-    let mut bad: u64 = 0;
-    while at < s.len() {
-        let t = turn_at(out, s, at, run)?;
-        at = t.next;
-        bad += t.bad;
-        run += 1;
-    }
-    Ok(Tally { run, bad })
-}
-
-// Where the next case starts, and 1 for a mismatch.
-#[derive(Clone, Copy)]
-struct Turn {
-    next: usize,
-    bad: u64,
-}
-
-fn turn_at<W: Write>(out: &mut W, s: &[u8], at: usize, run: u64) -> io::Result<Turn>
+// Where the next case starts, and whether this one agrees; nothing if the file ends in it.
+fn case_at(s: &[u8], at: usize) -> Option<(usize, bool)>
     requires { at < length s.now }
-    ensures { IfOk result (λ t. (at < t.next) × (t.next ≤ length s.now) × (t.bad ≤ 1)) }
+    ensures { IfSome result (λ r. (at < r.0) × (r.0 ≤ length s.now)) }
 {
     let input = at + 2;
     let size = input + short_at(s, at);
     if s.len() < size {
-        return broken(out, s, run);
+        return None;
     }
     let output = size + 2;
     let end = output + short_at(s, size);
     if s.len() < end {
-        return broken(out, s, run);
+        return None;
     }
-    if agrees(&s[input..size], &s[output..end]) {
-        return Ok(Turn { next: end, bad: 0 });
-    }
-    line(out, b"mismatch in case", run)?;
-    Ok(Turn { next: end, bad: 1 })
-}
-
-fn broken<W: Write>(out: &mut W, s: &[u8], run: u64) -> io::Result<Turn>
-    ensures { IfOk result (λ t. (t.next ≡ length s.now) × (t.bad ≡ 1)) }
-{
-    line(out, b"broken case", run)?;
-    Ok(Turn {
-        next: s.len(),
-        bad: 1,
-    })
+    Some((end, agrees(&s[input..size], &s[output..end])))
 }
 
 // Whether plate prints this output. What is lent holds something else before.
@@ -140,8 +87,7 @@ fn layers_agree(
     output: &[u8],
 ) -> bool {
     let mut at: usize = 0;
-    let mut i: usize = 0;
-    while i < layers {
+    for i in 0..layers {
         at = layer_behind(
             bundle,
             &selectors[..],
@@ -151,7 +97,6 @@ fn layers_agree(
             output,
             at,
         );
-        i += 1;
     }
     at == output.len()
 }
@@ -168,10 +113,8 @@ fn layer_behind(
 ) -> usize {
     let mut at = name_behind(bundle, selectors, maps, i, output, from);
     let count = line::property_count(maps, i) as usize;
-    let mut j: usize = 0;
-    while j < count {
+    for j in 0..count {
         at = property_behind(bundle, properties, maps, i, j, output, at);
-        j += 1;
     }
     at
 }
@@ -219,18 +162,4 @@ fn behind(output: &[u8], at: usize, out: &[u8], n: usize) -> usize {
         return at + n;
     }
     NOWHERE
-}
-
-fn wide(b: u8) -> usize
-    ensures { result ≤ 255 }
-{
-    b as usize
-}
-
-// Two bytes, lowest first.
-fn short_at(s: &[u8], at: usize) -> usize
-    requires { at ≤ length s.now + 16777216 }
-    ensures { result ≤ 65535 }
-{
-    wide(base::byte_at(s, at)) + 256 * wide(base::byte_at(s, at + 1))
 }

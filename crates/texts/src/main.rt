@@ -22,10 +22,8 @@ fn print_texts<W: Write>(out: &mut W, s: &[u8]) -> io::Result<()> {
 }
 
 fn print_all<W: Write>(out: &mut W, s: &[u8], count: usize) -> io::Result<()> {
-    let mut k: usize = 0;
-    while k < count {
+    for k in 0..count {
         print_text(out, s, k)?;
-        k += 1;
     }
     Ok(())
 }

@@ -2,104 +2,37 @@
 // tokenizer. It prints the number of each case that differs, then the totals.
 #![tactic(auto)]
 
-ghost use Rattle.std.specs.Prelude.{◌≡◌, ◌+◌, ◌≤◌, ◌<◌, length, IfOk, OnOk, ◌++◌, ◌∷◌, [], decimal};
-ghost use Rattle.std.specs.Io.KnownBytes.{Appends};
+ghost use Rattle.std.specs.Prelude.{◌≡◌, ◌+◌, ◌≤◌, ◌<◌, length, IfSome};
 
 use capi_token::mapcss_next_token;
 use std::io;
-use std::io::Write;
+use stdio::cases::{bits_of, case_buffer, is_byte, is_long, is_short, run_all, short_at, totals};
 
 fn main(rt: HostRuntime) -> io::Result<()> {
-    let mut cases = case_buffer();
-    let n = stdio::read_full(&mut rt.stdin(), &mut cases)?;
+    let mut room = case_buffer();
+    let n = stdio::read_full(&mut rt.stdin(), &mut room)?;
+    let cases = &room[..n];
     let mut out = rt.stdout();
-    let t = run_all(&mut out, &cases[..n])?;
-    line(&mut out, b"cases", t.run)?;
-    line(&mut out, b"mismatches", t.bad)
+    let t = run_all(&mut out, cases.len(), |at| case_at(cases, at))?;
+    totals(&mut out, t)
 }
 
-fn line<W: Write>(out: &mut W, name: &[u8], n: u64) -> io::Result<()>
-    ensures { OnOk result (Appends (W.contents out.old) (W.contents out.new) (name.now ++ (32 ∷ (decimal n ++ (10 ∷ []))))) }
-{
-    stdio::line(out, name, n)
-}
-
-// Room for all cases.
-fn case_buffer() -> [u8; 524288]
-    ensures { 524288 ≡ length result }
-{
-    [0; 524288]
-}
-
-#[derive(Clone, Copy)]
-struct Tally {
-    run: u64,
-    bad: u64,
-}
-
-fn run_all<W: Write>(out: &mut W, s: &[u8]) -> io::Result<Tally> {
-    let mut at: usize = 0;
-    let mut run: u64 = 0;
-    let mut bad: u64 = 0;
-    while at < s.len() {
-        let t = turn_at(out, s, at, run)?;
-        at = t.next;
-        bad += t.bad;
-        run += 1;
-    }
-    Ok(Tally { run, bad })
-}
-
-// Where the next case starts, and 1 for a mismatch.
-#[derive(Clone, Copy)]
-struct Turn {
-    next: usize,
-    bad: u64,
-}
-
-fn turn_at<W: Write>(out: &mut W, s: &[u8], at: usize, run: u64) -> io::Result<Turn>
+// Where the next case starts, and whether this one agrees; nothing if the file ends in it.
+fn case_at(s: &[u8], at: usize) -> Option<(usize, bool)>
     requires { at < length s.now }
-    ensures { IfOk result (λ t. (at < t.next) × (t.next ≤ length s.now) × (t.bad ≤ 1)) }
+    ensures { IfSome result (λ r. (at < r.0) × (r.0 ≤ length s.now)) }
 {
     let text = at + 2;
     let behind = text + short_at(s, at);
     if s.len() < behind {
-        return broken(out, s, run);
+        return None;
     }
     let answer = behind + 2;
     let end = answer + short_at(s, behind);
     if s.len() < end {
-        return broken(out, s, run);
+        return None;
     }
-    if agrees(&s[text..behind], &s[answer..end]) {
-        return Ok(Turn { next: end, bad: 0 });
-    }
-    line(out, b"mismatch in case", run)?;
-    Ok(Turn { next: end, bad: 1 })
-}
-
-fn broken<W: Write>(out: &mut W, s: &[u8], run: u64) -> io::Result<Turn>
-    ensures { IfOk result (λ t. (t.next ≡ length s.now) × (t.bad ≡ 1)) }
-{
-    line(out, b"broken case", run)?;
-    Ok(Turn {
-        next: s.len(),
-        bad: 1,
-    })
-}
-
-fn wide(b: u8) -> usize
-    ensures { result ≤ 255 }
-{
-    b as usize
-}
-
-// Two bytes, lowest first.
-fn short_at(s: &[u8], at: usize) -> usize
-    requires { at ≤ length s.now }
-    ensures { result ≤ 65535 }
-{
-    wide(base::byte_at(s, at)) + 256 * wide(base::byte_at(s, at + 1))
+    Some((end, agrees(&s[text..behind], &s[answer..end])))
 }
 
 // What a step answered: its kind, the cursor behind it, its line and character, its payload.
@@ -210,7 +143,7 @@ fn is_payload(answer: &[u8], i: usize, a: Answer) -> bool
     let number = a.number;
     match kind {
         2 | 3 | 4 | 7 => is_short(answer, i + 5, words[6]) && is_short(answer, i + 7, words[7]),
-        5 => is_number(answer, i + 5, number[0]),
+        5 => is_long(answer, i + 5, bits_of(number[0])),
         6 => {
             is_byte(answer, i + 5, words[6])
                 && is_byte(answer, i + 6, words[7])
@@ -224,33 +157,4 @@ fn is_payload(answer: &[u8], i: usize, a: Answer) -> bool
         }
         _ => true,
     }
-}
-
-fn is_byte(answer: &[u8], i: usize, n: u64) -> bool {
-    wide(base::byte_at(answer, i)) as u64 == n
-}
-
-fn is_short(answer: &[u8], i: usize, n: u64) -> bool
-    requires { i ≤ length answer.now + 32 }
-{
-    is_byte(answer, i, n % 256) && is_byte(answer, i + 1, n / 256)
-}
-
-// Eight bytes of a number's bits, lowest first; all NaN are one.
-fn is_number(answer: &[u8], i: usize, x: f64) -> bool
-    requires { i ≤ length answer.now + 16 }
-{
-    if x == x {
-        return is_long(answer, i, f64::to_bits(x));
-    }
-    is_long(answer, i, 0x7ff8_0000_0000_0000)
-}
-
-fn is_long(answer: &[u8], i: usize, n: u64) -> bool
-    requires { i ≤ length answer.now + 16 }
-{
-    is_short(answer, i, n % 65536)
-        && is_short(answer, i + 2, n / 65536 % 65536)
-        && is_short(answer, i + 4, n / 4294967296 % 65536)
-        && is_short(answer, i + 6, n / 281474976710656)
 }
