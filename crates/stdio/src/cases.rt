@@ -67,35 +67,40 @@ pub fn totals<W: Write>(out: &mut W, t: Tally) -> io::Result<()>
     line(out, b"mismatches", t.bad)
 }
 
-// Two bytes.
+// Two bytes; past the end stand zeros.
 pub fn short_at(s: &[u8], at: usize) -> usize
-    requires { at ≤ 18446744073709551614 }
     ensures value { result ≡ short s.now at }
     ensures bound { result ≤ 65535 }
 {
+    if s.len() <= at {
+        return 0;
+    }
     usize::from(base::byte_at(s, at)) + 256 * usize::from(base::byte_at(s, at + 1))
 }
 
 // Four bytes.
 pub fn word_at(s: &[u8], at: usize) -> usize
-    requires { at ≤ 18446744073709551612 }
     ensures value { result ≡ word s.now at }
     ensures bound { result ≤ 4294967295 }
 {
+    if s.len() <= at {
+        return 0;
+    }
     short_at(s, at) + 65536 * short_at(s, at + 2)
 }
 
 // Eight bytes.
 pub fn long_at(s: &[u8], at: usize) -> usize
-    requires { at ≤ 18446744073709551608 }
     ensures { result ≡ long s.now at }
 {
+    if s.len() <= at {
+        return 0;
+    }
     word_at(s, at) + 4294967296 * word_at(s, at + 4)
 }
 
 // The float with the stored bits.
 pub fn float_at(s: &[u8], at: usize) -> f64
-    requires { at ≤ 18446744073709551608 }
     ensures { result ≡ of_bits binary64 (long s.now at) }
 {
     let n = long_at(s, at) as u64;
@@ -122,14 +127,12 @@ pub fn is_byte(s: &[u8], at: usize, n: u64) -> bool
 }
 
 pub fn is_short(s: &[u8], at: usize, n: u64) -> bool
-    requires { at ≤ 18446744073709551614 }
     ensures { result ≡ eqb (short s.now at) n }
 {
     short_at(s, at) as u64 == n
 }
 
 pub fn is_long(s: &[u8], at: usize, n: u64) -> bool
-    requires { at ≤ 18446744073709551608 }
     ensures { result ≡ eqb (long s.now at) n }
 {
     long_at(s, at) as u64 == n
