@@ -69,15 +69,9 @@ fn rules_color(
 ) -> Option<Color>
     ensures { result ≡ rules_color bundle.now rules.now selectors.now properties.now numbers.now name.now (places 0 total) }
 {
-    let mut r: usize = 0;
-    while r < total {
-        match rule_color(bundle, rules, selectors, properties, numbers, name, r) {
-            None => {
-                r += 1;
-            }
-            Some(c) => {
-                return Some(c);
-            }
+    for r in 0..total {
+        if let Some(c) = rule_color(bundle, rules, selectors, properties, numbers, name, r) {
+            return Some(c);
         }
     }
     None
@@ -111,12 +105,10 @@ fn rule_color(
 fn any_canvas(selectors: &[u32], from: usize, to: usize) -> bool
     ensures { result ≡ any_canvas selectors.now (places from (to - from)) }
 {
-    let mut s = from;
-    while s < to {
+    for s in from..to {
         if word_of(selectors, s, 0) == 2 {
             return true;
         }
-        s += 1;
     }
     false
 }
@@ -132,15 +124,9 @@ fn first_color(
 ) -> Option<Color>
     ensures { result ≡ first_color bundle.now properties.now numbers.now name.now (places from (to - from)) }
 {
-    let mut p = from;
-    while p < to {
-        match color_at(bundle, properties, numbers, name, p) {
-            None => {
-                p += 1;
-            }
-            Some(c) => {
-                return Some(c);
-            }
+    for p in from..to {
+        if let Some(c) = color_at(bundle, properties, numbers, name, p) {
+            return Some(c);
         }
     }
     None

@@ -66,29 +66,18 @@ fn size_of(x: f64) -> u64
 fn is_natural(v: &[u8], n: u64) -> bool
     ensures { result ≡ same v.now (natural_digits n) }
 {
-    let mut i = v.len();
     let mut rest = n;
-    while 0 < i {
-        let b = wide(v[i - 1]);
+    for i in (0..v.len()).rev() {
+        let b = u64::from(v[i]);
         if rest < 10 {
-            if i == 1 {
-                return b == 48 + rest;
-            }
-            return false;
+            return i == 0 && b == 48 + rest;
         }
         if b != 48 + rest % 10 {
             return false;
         }
         rest /= 10;
-        i -= 1;
     }
     false
-}
-
-fn wide(b: u8) -> u64
-    ensures { result ≡ b }
-{
-    b as u64
 }
 
 // All but the first byte.

@@ -26,17 +26,9 @@ use Rattle.style.specs.Style.{z_index_in, foreground_in}
 use Rattle.styles.specs.Styles.{styled_rows}
 use Rattle.order.specs.Keys.{Key, key_at}
 use Rattle.drawing.specs.Gather.{Gathered, stopped, gathered, keys_at, layer_rank, fill_rank, stream_rank, z_of, key_of, keys_from, any_nan, push}
-use Rattle.std.specs.Prelude.{Option, Some, None}
+use Rattle.std.specs.Prelude.{Option}
 
 -- ---- ranks
-
-pub rank_none : (l : Option ℤ) → l ≡ None → pos 0 ≡ layer_rank l
-unfolding layer_rank
-rank_none l e = sym (ap layer_rank e)
-
-pub rank_some : (l : Option ℤ) (i : ℤ) → l ≡ Some i → i ≡ layer_rank l
-unfolding layer_rank
-rank_some l i e = sym (ap layer_rank e)
 
 pub fill_labels : (l f : Bool) → l ≡ true → 0 ≡ fill_rank l f
 unfolding fill_rank pick
@@ -45,10 +37,6 @@ fill_labels l f e = rw e
 pub fill_drawn : (l f : Bool) (n : ℕ) → l ≡ false → n ≡ pick f 1 0 → n ≡ fill_rank l f
 unfolding fill_rank pick
 fill_drawn l f n e q = rw e q
-
-pub stream_is : (m : Bool) (n : ℕ) → n ≡ pick m 1 0 → n ≡ stream_rank m
-unfolding stream_rank
-stream_is m n q = q
 
 pub one_of : (m : Bool) → m ≡ true → ◌≡◌ {A = ℕ} 1 (pick m 1 0)
 unfolding pick

@@ -1,5 +1,5 @@
 -- The drawing lists of nodes and of areas: 22, then the streams, then the sort; three words an entry, zeros behind them.
-use Rattle.std.specs.Prelude.{ℕ, ◌+◌, ◌*◌, ◌/◌, min, Bool, true, false, List, [], ◌∷◌, ◌++◌, map, Float, get_or, length, take, drop, replicate, Result, Ok, Err}
+use Rattle.std.specs.Prelude.{ℕ, ◌+◌, ◌*◌, ◌/◌, min, true, false, List, [], ◌∷◌, ◌++◌, map, Float, get_or, length, take, drop, replicate, Result, Ok, Err}
 use Rattle.base.specs.Bytes.{Bytes}
 use Rattle.base.specs.Choice.{pick}
 use Rattle.base.specs.Refusal.{refusal}

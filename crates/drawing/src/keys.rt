@@ -45,13 +45,11 @@ fn put_key(
 }
 
 // A layer that is absent counts as 0.
+#[tactic(auto, unfolding(crate::specs::Gather::layer_rank))]
 fn layer_rank(layer: Option<i64>) -> i64
     ensures { result ≡ layer_rank layer }
 {
-    match layer {
-        None => 0,
-        Some(i) => i,
-    }
+    layer.unwrap_or(0)
 }
 
 fn fill_rank(for_labels: bool, foreground: bool) -> u64
@@ -69,10 +67,7 @@ fn fill_rank(for_labels: bool, foreground: bool) -> u64
 fn stream_rank(multipolygons: bool) -> u64
     ensures { result ≡ stream_rank multipolygons }
 {
-    if multipolygons {
-        return 1;
-    }
-    0
+    u64::from(multipolygons)
 }
 
 // Whether the z-index of a styled layer, of the first m of a table of maps, is NaN.
@@ -88,16 +83,13 @@ pub fn any_nan(
     requires { m ≤ 32 }
     ensures { result ≡ any_nan bundle.now properties.now numbers.now maps.now kind (styled_rows bundle.now selectors.now maps.now m) }
 {
-    let mut i: usize = 0;
-    while i < m {
+    for i in 0..m {
         if is_layer(bundle, selectors, word_at(&maps[..], i * 131), b"*") {
-            i += 1;
-        } else {
-            let z = z_index(bundle, properties, numbers, row_of(maps, i), kind);
-            if z != z {
-                return true;
-            }
-            i += 1;
+            continue;
+        }
+        let z = z_index(bundle, properties, numbers, row_of(maps, i), kind);
+        if z != z {
+            return true;
         }
     }
     false
@@ -127,36 +119,33 @@ pub fn push_layers(
     ensures words_after { told result layers.new zs.new words.new ≡ push room (keys_at layers.old zs.old words.old n) (gathered (keys_from bundle.now properties.now numbers.now for_labels multipolygons place kind id layer maps.now 0 (styled_rows bundle.now selectors.now maps.now m))) }
     ensures IsBounded { IsBounded room result }
 {
-    let mut i: usize = 0;
     let mut k: usize = 0;
-    while i < m {
+    for i in 0..m {
         if is_layer(bundle, selectors, word_at(&maps[..], i * 131), b"*") {
-            i += 1;
-        } else {
-            if room <= n + k {
-                return Err(Refusal::plain(DRAW_LIST_FULL));
-            }
-            put_key(
-                bundle,
-                properties,
-                numbers,
-                for_labels,
-                multipolygons,
-                place,
-                kind,
-                id,
-                layer,
-                maps,
-                k,
-                i,
-                layers,
-                zs,
-                words,
-                n + k,
-            );
-            k += 1;
-            i += 1;
+            continue;
         }
+        if room <= n + k {
+            return Err(Refusal::plain(DRAW_LIST_FULL));
+        }
+        put_key(
+            bundle,
+            properties,
+            numbers,
+            for_labels,
+            multipolygons,
+            place,
+            kind,
+            id,
+            layer,
+            maps,
+            k,
+            i,
+            layers,
+            zs,
+            words,
+            n + k,
+        );
+        k += 1;
     }
     Ok(n + k)
 }

@@ -33,10 +33,8 @@ fn count_from(order: &mut [u32], at: usize, from: usize, k: usize)
     requires { (at + k ≤ length order.old) × (from + k ≤ 4096) }
     ensures { order.new ≡ take at order.old ++ (places from k ++ drop (at + k) order.old) }
 {
-    let mut i: usize = 0;
-    while i < k {
+    for i in 0..k {
         order[at + i] = (from + i) as u32;
-        i += 1;
     }
 }
 
@@ -45,14 +43,12 @@ fn write_entries(order: &[u32], words: &[u64], n: usize, list: &mut [u32])
     requires { (n ≤ length order.now) × (n * 3 ≤ length list.old) × (list.old ≡ replicate (length list.old) 0) }
     ensures { list.new ≡ padded 0 (length list.old) (flat (map (entry_at words.now) (take n order.now))) }
 {
-    let mut i: usize = 0;
-    while i < n {
+    for i in 0..n {
         let k = order[i] as usize;
         let at = i * 3;
         list[at] = low(words, k * 5 + 2);
         list[at + 1] = low(words, k * 5 + 3);
         list[at + 2] = low(words, k * 5 + 4);
-        i += 1;
     }
 }
 

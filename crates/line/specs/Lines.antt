@@ -1,5 +1,5 @@
 -- The lines that plate prints: `layer NAME`, `NAME NUMBER`, `refused` and five numbers; one blank between, a newline behind each.
-use Rattle.std.specs.Prelude.{ℕ, ◌-◌, min, length, take, drop}
+use Rattle.std.specs.Prelude.{ℕ, min, length, take, drop}
 use mathlib.Core.List.{List, [], ◌∷◌, ◌++◌, map, flat_map}
 use Rattle.base.specs.Bytes.{Bytes, ascii}
 use Rattle.base.specs.Map.{Entry}

@@ -135,10 +135,8 @@ fn put_bytes(out: &mut [u8], n: usize, s: &[u8]) -> usize
     ensures { (result, out.new) ≡ put_all (n, out.old) s.now }
 {
     let mut m = n;
-    let mut i = 0;
-    while i < s.len() {
-        m = put_byte(out, m, s[i]);
-        i += 1;
+    for &b in s {
+        m = put_byte(out, m, b);
     }
     m
 }

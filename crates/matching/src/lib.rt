@@ -87,18 +87,11 @@ fn tests_fit(
 ) -> Fit
     ensures { result ≡ fit_of (tests_verdict (value_of entity.now e) (map (test_at bundle.now tests.now numbers.now) (places_in range))) }
 {
-    let mut k = range.from;
-    while k < range.to {
+    for k in range.from..range.to {
         match test_fits(bundle, tests, numbers, entity, e, k) {
-            Fit::Out => {
-                return Fit::Out;
-            }
-            Fit::Misses => {
-                return Fit::Misses;
-            }
-            Fit::Fits => {
-                k += 1;
-            }
+            Fit::Out => return Fit::Out,
+            Fit::Misses => return Fit::Misses,
+            Fit::Fits => {}
         }
     }
     Fit::Fits

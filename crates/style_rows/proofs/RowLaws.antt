@@ -5,8 +5,8 @@ use mathlib.Core.List.{List, [], ◌∷◌, ◌++◌, map, append_assoc, append-
 use native.Mathlib.Nat.{suc-mul}
 use native.Mathlib.Numerals.{add-one}
 use native.Mathlib.Omega.{arith}
-use lib.ListN.{get_or, drop_of_length-le, length, set, take, drop, replicate, length-append, length-take, length-drop, length-replicate}
-use lib.Seq.{set_at, take-suc, take_all, drop-cons, drop-drop}
+use lib.ListN.{get_or, length, set, take, drop, replicate, length-append, length-take, length-drop, length-replicate}
+use lib.Seq.{set_at, take-suc, drop-cons, drop-drop}
 use Rattle.base.specs.Table.{padded, stored, flat}
 
 module _ {A : Type 0} where

@@ -11,16 +11,16 @@ use Rattle.color.specs.declared.Color.{Color}
 use Rattle.base.specs.declared.Range.{Range}
 use Rattle.table.specs.declared.Name.{Name}
 
-unfoldable pub flag : Bool → ℕ
+abbrev pub flag : Bool → ℕ
 flag true = 1
 flag false = 0
 
 -- whether a number is there, and the number; 0 where it is not
-unfoldable pub has_number : Option Float → ℕ
+abbrev pub has_number : Option Float → ℕ
 has_number None = 0
 has_number (Some x) = 1
 
-unfoldable pub float_number : Option Float → Float
+abbrev pub float_number : Option Float → Float
 float_number None = zero_float
 float_number (Some x) = x
 
@@ -35,11 +35,11 @@ position_number None = 0
 position_number (Some Center) = 1
 position_number (Some Line) = 2
 
-unfoldable pub layer_number : Option ℤ → ℤ
+abbrev pub layer_number : Option ℤ → ℤ
 layer_number None = pos 0
 layer_number (Some i) = i
 
-unfoldable pub has_layer : Option ℤ → ℕ
+abbrev pub has_layer : Option ℤ → ℕ
 has_layer None = 0
 has_layer (Some i) = 1
 

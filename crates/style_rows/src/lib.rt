@@ -1,11 +1,11 @@
 // A styled layer in numbers, into lent tables of 32 rows.
 #![tactic(auto)]
 
-ghost use Rattle.std.specs.Prelude.{◌≡◌, [], ◌∷◌, map, ◌≤◌, min, pos, length, replicate, take};
+ghost use Rattle.std.specs.Prelude.{◌≡◌, [], ◌∷◌, map, ◌≤◌, min, pos, length, take};
 ghost use Rattle.base.specs.Table.{zero_float, padded, stored, flat};
 ghost use Rattle.style_rows.specs.Rows.{flag, has_number, float_number, cap_number, position_number, layer_number, has_layer, color_numbers, dash_numbers, text_numbers, scalars, row_words, row_floats, row_layer};
 
-use base::{Range, set_float, set_long, zero_floats};
+use base::{Range, set_float, set_long};
 use color::Color;
 use style::{LineCap, TextPosition};
 use styles::StyledLayer;
@@ -35,37 +35,14 @@ fn at_most(n: usize) -> usize
     if n <= 32 { n } else { 32 }
 }
 
-fn clear_words(t: &mut [u64])
-    ensures { t.new ≡ replicate (length t.old) 0 }
-{
-    let mut n = 0;
-    while n < t.len() {
-        t[n] = 0;
-        n += 1;
-    }
-}
-
-fn clear_layers(t: &mut [i64])
-    ensures { t.new ≡ replicate (length t.old) (pos 0) }
-{
-    let mut n = 0;
-    while n < t.len() {
-        t[n] = 0;
-        n += 1;
-    }
-}
-
 fn fill_words(all: [StyledLayer; 32], n: usize, words: &mut [u64])
     requires n_bound { n ≤ 32 }
     requires words_len { length words.old ≡ 1664 }
     ensures { words.new ≡ padded 0 1664 (flat (map row_words (take n all))) }
 {
-    clear_words(words);
-    let mut k: usize = 0;
-    while k < n {
-        let x = all[k];
-        store_words(x, words, k * 52);
-        k += 1;
+    words.fill(0);
+    for k in 0..n {
+        store_words(all[k], words, k * 52);
     }
 }
 
@@ -74,12 +51,9 @@ fn fill_floats(all: [StyledLayer; 32], n: usize, floats: &mut [f64])
     requires floats_len { length floats.old ≡ 192 }
     ensures { floats.new ≡ padded zero_float 192 (flat (map row_floats (take n all))) }
 {
-    zero_floats(floats);
-    let mut k: usize = 0;
-    while k < n {
-        let x = all[k];
-        store_floats(x, floats, k * 6);
-        k += 1;
+    floats.fill(0.0);
+    for k in 0..n {
+        store_floats(all[k], floats, k * 6);
     }
 }
 
@@ -88,57 +62,40 @@ fn fill_layers(all: [StyledLayer; 32], n: usize, layers: &mut [i64])
     requires layers_len { length layers.old ≡ 32 }
     ensures { layers.new ≡ padded (pos 0) 32 (map row_layer (take n all)) }
 {
-    clear_layers(layers);
-    let mut k: usize = 0;
-    while k < n {
-        let x = all[k];
-        let s = x.style;
-        let tag = s.layer;
-        layers[k] = layer_number(tag);
-        k += 1;
+    layers.fill(0);
+    for k in 0..n {
+        layers[k] = layer_number(all[k].style.layer);
     }
 }
 
 fn layer_number(tag: Option<i64>) -> i64
     ensures { result ≡ layer_number tag }
 {
-    match tag {
-        None => 0,
-        Some(i) => i,
-    }
+    tag.unwrap_or(0)
 }
 
 fn has_layer(tag: Option<i64>) -> u64
     ensures { result ≡ has_layer tag }
 {
-    match tag {
-        None => 0,
-        Some(_) => 1,
-    }
+    u64::from(tag.is_some())
 }
 
 fn flag(b: bool) -> u64
     ensures { result ≡ flag b }
 {
-    if b { 1 } else { 0 }
+    u64::from(b)
 }
 
 fn has_number(m: Option<f64>) -> u64
     ensures { result ≡ has_number m }
 {
-    match m {
-        None => 0,
-        Some(_) => 1,
-    }
+    u64::from(m.is_some())
 }
 
 fn float_number(m: Option<f64>) -> f64
     ensures { result ≡ float_number m }
 {
-    match m {
-        None => 0.0,
-        Some(x) => x,
-    }
+    m.unwrap_or(0.0)
 }
 
 fn cap_number(c: Option<LineCap>) -> u64

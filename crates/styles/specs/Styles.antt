@@ -1,6 +1,6 @@
 -- The styles of one entity, from tables, a bundle and bytes that may be anything: refusals 22, 7, 2, those of the walk, then a
 -- style for each layer but `*`.
-use Rattle.std.specs.Prelude.{ℕ, ◌*◌, Bool, false, not, List, map, ltb, Float, get_or, length, replicate, Option, None, Result, Ok, Err, ℤ}
+use Rattle.std.specs.Prelude.{ℕ, ◌*◌, false, not, List, map, ltb, Float, get_or, length, replicate, Option, None, Result, Ok, Err, ℤ}
 use Rattle.base.specs.Bytes.{Bytes, ascii, same}
 use Rattle.base.specs.Choice.{pick}
 use Rattle.base.specs.Refusal.{refusal}
@@ -21,7 +21,6 @@ use Rattle.walk.specs.Rows.{numbers_at}
 use Rattle.walk.specs.Selectors.{layer_in}
 use Rattle.style.specs.Style.{number_in, width_or_zero, style_at}
 use Rattle.style.specs.declared.Settings.{Settings}
-use Rattle.style.specs.declared.Style.{Style}
 use Rattle.styles.specs.declared.EntityStyles.{EntityStyles}
 use Rattle.styles.specs.declared.StyledLayer.{StyledLayer}
 use Rattle.base.specs.Option.{on_result}

@@ -127,28 +127,25 @@ fn filled_layers(
     let base = default_width(bundle, selectors, properties, numbers, maps, n);
     let mut layers = [blank_layer(); 32];
     let mut count: usize = 0;
-    let mut i: usize = 0;
-    while i < n {
+    for i in 0..n {
         let s = word_at(&maps[..], i * 131);
         if is_layer(bundle, selectors, s, b"*") {
-            i += 1;
-        } else {
-            layers[count] = StyledLayer {
-                selector: s,
-                style: property_map_to_style(
-                    bundle,
-                    properties,
-                    numbers,
-                    row_of(maps, i),
-                    kind,
-                    layer,
-                    base,
-                    settings,
-                ),
-            };
-            count += 1;
-            i += 1;
+            continue;
         }
+        layers[count] = StyledLayer {
+            selector: s,
+            style: property_map_to_style(
+                bundle,
+                properties,
+                numbers,
+                row_of(maps, i),
+                kind,
+                layer,
+                base,
+                settings,
+            ),
+        };
+        count += 1;
     }
     EntityStyles {
         answer: Ok(count),

@@ -120,12 +120,10 @@ fn is_word(t: &[u8], w: &[u8]) -> bool
     if t.len() != w.len() {
         return false;
     }
-    let mut i = 0;
-    while i < t.len() {
+    for i in 0..t.len() {
         if lower(t[i]) != w[i] {
             return false;
         }
-        i += 1;
     }
     true
 }
@@ -265,14 +263,12 @@ fn is_digit(b: u8) -> bool
 fn digit_count(v: &[u8]) -> usize
     ensures { result ≡ length (digits v.now) }
 {
-    let mut i = 0;
-    while i < v.len() {
+    for i in 0..v.len() {
         if !is_digit(v[i]) {
             return i;
         }
-        i += 1;
     }
-    i
+    v.len()
 }
 
 fn first_digits(v: &[u8]) -> &[u8]
@@ -364,10 +360,8 @@ fn spell(v: &[u8], start: u64) -> u64
     ensures { result ≡ grown_from start v.now }
 {
     let mut n = start;
-    let mut i = 0;
-    while i < v.len() {
-        n = grow(n, v[i]);
-        i += 1;
+    for &b in v {
+        n = grow(n, b);
     }
     n
 }

@@ -1,13 +1,15 @@
 -- Laws of layers, one for each way through the code, over plain lists and numbers.
-use Prim.Native.Nat.{ℕ, suc, ◌+◌, ◌*◌, ◌-◌, ◌≤◌, ◌<◌, min}
+use Prim.Native.Nat.{ℕ, zero, suc, ◌+◌, ◌*◌, ◌-◌, ◌≤◌, ◌<◌, min}
 use native.Mathlib.Omega.{arith}
 use native.Mathlib.Numerals.{add-one}
 use native.Mathlib.Nat.{add-zero}
 use mathlib.Core.Path.{◌≡◌, sym, ◌∙◌, ap, ap₂, subst}
 use mathlib.Core.Bool.{Bool, true, false, cond}
 use mathlib.Core.List.{List, ◌∷◌, ◌++◌, append_assoc}
-use lib.ListN.{length, take, drop, get_or, set, length-take, length-drop, take-append-drop}
-use lib.Seq.{take-suc, set_at, append_snoc, length-take-le, drop-append-le, drop-drop}
+use lib.ListN.{length, take, drop, get_or, set, length-take, length-drop, take-append-drop, get_or-append}
+use lib.Seq.{take-suc, set_at, append_snoc, length-take-le, drop-append-le, drop-drop, paste, paste-zero, length_paste_head, get_or-take, get_or-drop}
+use Rattle.std.specs.List.{copy_within}
+use Rattle.std.proofs.lemmas.List.Edits.{paste_more}
 use borrow.Author.Tests.{lt-ltb, le-ltb, ne_eqb, eq-eqb}
 use Rattle.base.specs.Bytes.{Bytes, same, between}
 use Rattle.base.specs.Choice.{pick}
@@ -68,32 +70,36 @@ module _ (layer : ℕ → Bytes) (t : List ℕ) (l : Bytes) where
 
 -- ---- rows
 
-pub copied_step :
-    (t : List ℕ) (a b k i : ℕ)
-    → i < k
-    → copied t (a + i) (b + i) (k - i) ≡ copied (set t (b + i) (get_or t (a + i) 0)) (a + (i + 1)) (b + (i + 1)) (k - (i + 1))
-unfolding copied
-copied_step t a b k i h =
-    ap (copied t (a + i) (b + i)) step ∙ ap₂ (λ x y. copied (set t (b + i) (get_or t (a + i) 0)) x y (k - (i + 1))) p q
-  where
-    step : k - i ≡ suc (k - (i + 1))
-    step = omega arith
+-- the library's copy, to a place behind the words that are copied
+module _ (t : List ℕ) (a b : ℕ) where
+  pasted : (k i : ℕ) → a + (i + k) ≤ b → b + (i + k) ≤ length t → paste t b (drop a t) (i + k) ≡ copied (paste t b (drop a t) i) (a + i) (b + i) k
+  unfolding copied
+  pasted zero i h l = ap (paste t b (drop a t)) (add-zero i)
+  pasted (suc k) i h l =
+      let x : List ℕ = paste t b (drop a t) i in
+      let on : i + suc k ≡ i + 1 + k = omega arith in
+      let p : a + (i + 1) ≡ a + i + 1 = omega arith in
+      let q : b + (i + 1) ≡ b + i + 1 = omega arith in
+      let word : get_or x (a + i) 0 ≡ get_or (drop a t) i 0 =
+      get_or-append (take b t ++ take i (drop a t)) (drop (b + i) t) 0 (a + i)
+      (omega (arith, length_paste_head t b (drop a t) i (omega arith) (omega (arith, length-drop a t))))
+      ∙ get_or-append (take b t) (take i (drop a t)) 0 (a + i) (omega (arith, length-take b t))
+      ∙ get_or-take b t (a + i) 0 (omega arith)
+      ∙ sym (get_or-drop a t i 0) in
+      let one : set x (b + i) (get_or x (a + i) 0) ≡ paste t b (drop a t) (i + 1) =
+      ap (set x (b + i)) word ∙ paste_more t b (drop a t) i 0 (omega arith) (omega (arith, length-drop a t)) in
+      ap (paste t b (drop a t)) on
+      ∙ pasted k (i + 1) (omega arith) (omega arith)
+      ∙ ap₂ (λ u v. copied (paste t b (drop a t) (i + 1)) u v k) p q
+      ∙ ap (λ y. copied y (a + i + 1) (b + i + 1) k) (sym one)
 
-    p : a + i + 1 ≡ a + (i + 1)
-    p = omega arith
-
-    q : b + i + 1 ≡ b + (i + 1)
-    q = omega arith
-
-pub copied_end : (t : List ℕ) (x y k i : ℕ) → k ≤ i → t ≡ copied t x y (k - i)
-unfolding copied
-copied_end t x y k i h = sym (ap (copied t x y) step)
-  where
-    step : k - i ≡ 0
-    step = omega arith
-
-pub copied_start : (t : List ℕ) (a b k : ℕ) → copied t (a + 0) (b + 0) (k - 0) ≡ copied t a b k
-copied_start t a b k = let z : k - 0 ≡ k = omega arith in rw (add-zero a, add-zero b, z)
+  pub copied_within : (e k : ℕ) → e ≡ a + k → a + k ≤ b → b + k ≤ length t → copy_within t a e b ≡ copied t a b k
+  copied_within e k r h l =
+      let z : e - a ≡ 0 + k = omega arith in
+      ap (paste t b (drop a t)) z
+      ∙ pasted k 0 (omega arith) (omega arith)
+      ∙ ap (λ y. copied y (a + 0) (b + 0) k) (sym (paste-zero t b (drop a t)))
+      ∙ ap₂ (λ u v. copied t u v k) (add-zero a) (add-zero b)
 
 module _ (layer : ℕ → Bytes) (t : List ℕ) (n s j : ℕ) (e : j ≡ seek layer t star 0 n) where
   pub new_copied : (u : List ℕ) → j < n → u ≡ copied t (j * 131) (n * 131) 131 → set u (n * 131) s ≡ new_row layer t n s

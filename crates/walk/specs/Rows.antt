@@ -1,5 +1,5 @@
 -- The properties of a layer, held as their numbers in a row of words: where an assignment goes.
-use Rattle.std.specs.Prelude.{ℕ, zero, suc, ◌+◌, ◌*◌, cond, get_or, take, drop}
+use Rattle.std.specs.Prelude.{ℕ, suc, ◌+◌, ◌*◌, cond, get_or, take, drop}
 use mathlib.Core.List.{List, [], ◌∷◌, foldl}
 use Rattle.base.specs.Bytes.{Bytes, same}
 use Rattle.cascade.specs.Numbered.{assign}

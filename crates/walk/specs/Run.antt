@@ -1,11 +1,11 @@
 -- The walk as the code runs it, over one lent table of 33 rows of 131 words. A row is a layer: the number of the selector that
 -- named it, how many properties it has, and their numbers, 128 at most. Names and verdicts are functions of a number.
-use Rattle.std.specs.Prelude.{ℕ, zero, suc, ◌+◌, ◌*◌, ◌-◌, ◌≤◌, cond, List, [], ◌∷◌, ◌++◌, ltb, get_or, take, drop, length, set, replicate, Result, Ok, Err}
+use Rattle.std.specs.Prelude.{ℕ, zero, suc, ◌+◌, ◌*◌, ◌-◌, ◌≤◌, cond, List, ◌∷◌, ◌++◌, ltb, get_or, take, drop, length, set, Result, Ok, Err}
 use Rattle.base.specs.Bytes.{Bytes, same}
 use Rattle.table.specs.Value.{word_at, range_at}
 use Rattle.cascade.specs.Clause.{star}
 use Rattle.cascade.specs.Match.{Verdict, pass, fail, out}
-use Rattle.decode.specs.Decode.{places, places_in}
+use Rattle.decode.specs.Decode.{places_in}
 use Rattle.walk.specs.Rows.{assigns}
 
 -- a run is stopped by a refusal's number, or goes on with a count of layers and the table

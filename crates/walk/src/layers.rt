@@ -2,7 +2,7 @@
 ghost use Rattle.std.specs.Prelude.{◌≡◌, ◌+◌, ◌-◌, ◌≤◌, length};
 ghost use Rattle.decode.specs.Decode.{name_at, places};
 ghost use Rattle.walk.specs.Selectors.{layer_in};
-ghost use Rattle.walk.specs.Run.{told, IsBounded, assign_at, assign_all, copied, seek, new_row, touch_of, step_of};
+ghost use Rattle.walk.specs.Run.{told, IsBounded, assign_at, assign_all, seek, new_row, touch_of, step_of};
 
 use crate::names::is_layer;
 use base::Range;
@@ -13,14 +13,12 @@ pub fn find_named(bundle: &[u8], selectors: &[u32], t: &[u32], n: usize, name: &
     requires { n ≤ 32 }
     ensures { result ≡ seek (layer_in bundle.now selectors.now) t.now name.now 0 n }
 {
-    let mut i = 0;
-    while i < n {
+    for i in 0..n {
         if is_layer(bundle, selectors, base::word_at(t, i * 131), name) {
             return i;
         }
-        i += 1;
     }
-    i
+    n
 }
 
 // The place of selector s's layer among the first n, or n.
@@ -47,18 +45,6 @@ fn find_layer(bundle: &[u8], selectors: &[u32], t: &[u32], n: usize, s: u32) -> 
     )
 }
 
-// Copies the k words at a to b, from the first to the last.
-fn copy_words(t: &mut [u32], a: usize, b: usize, k: usize)
-    requires { (a + k ≤ length t.old) × (b + k ≤ length t.old) }
-    ensures { t.new ≡ copied t.old a b k }
-{
-    let mut i = 0;
-    while i < k {
-        t[b + i] = t[a + i];
-        i += 1;
-    }
-}
-
 // Makes row n the row of a new layer, named by selector s: a copy of the row of `*`, if there is one.
 fn new_layer(bundle: &[u8], selectors: &[u32], t: &mut [u32], n: usize, s: u32)
     requires { (n ≤ 32) × (length t.old ≡ 4323) }
@@ -66,7 +52,7 @@ fn new_layer(bundle: &[u8], selectors: &[u32], t: &mut [u32], n: usize, s: u32)
 {
     let j = find_named(bundle, selectors, &t[..], n, b"*");
     if j < n {
-        copy_words(t, j * 131, n * 131, 131);
+        t.copy_within(j * 131..(j + 1) * 131, n * 131);
         t[n * 131] = s;
         return;
     }
@@ -112,10 +98,8 @@ fn assign_all(
     ensures t_after { told result t.new ≡ assign_all (name_at bundle.now properties.now) t.old m 0 m (places from (to - from)) }
     ensures IsBounded { IsBounded result }
 {
-    let mut i = 0;
-    while i < m {
+    for i in 0..m {
         assign_layer(bundle, properties, t, m, i, from, to)?;
-        i += 1;
     }
     Ok(m)
 }

@@ -144,13 +144,11 @@ fn walk_rules(
     ensures t_after { told result t.new ≡ rules_of (name_at bundle.now properties.now) (layer_in bundle.now selectors.now) (verdict_in bundle.now selectors.now tests.now numbers.now zoom entity.now e) rules.now t.old 0 0 total }
     ensures IsBounded { IsBounded result }
 {
-    let mut r = 0;
     let mut m = 0;
-    while r < total {
+    for r in 0..total {
         m = walk_rule(
             bundle, rules, selectors, tests, properties, numbers, zoom, entity, e, t, m, r,
         )?;
-        r += 1;
     }
     Ok(m)
 }
@@ -175,16 +173,15 @@ fn walk_rule(
     ensures IsBounded { IsBounded result }
 {
     let at = r * 8;
-    let mut s = word_at(rules, at + 1);
+    let start = word_at(rules, at + 1);
     let end = word_at(rules, at + 2);
     let from = word_at(rules, at + 3);
     let to = word_at(rules, at + 4);
     let mut m = n;
-    while s < end {
+    for s in start..end {
         m = visit(
             bundle, selectors, tests, properties, numbers, zoom, entity, e, t, m, s, from, to,
         )?;
-        s += 1;
     }
     Ok(m)
 }

@@ -25,14 +25,12 @@ pub fn name_of<'a>(bundle: &'a [u8], properties: &[u32], p: u32) -> &'a [u8]
 pub fn find_name(bundle: &[u8], properties: &[u32], row: &[u32], name: &[u8]) -> usize
     ensures { result ≡ place_of (name_at bundle.now properties.now) row.now name.now }
 {
-    let mut i = 0;
-    while i < row.len() {
+    for i in 0..row.len() {
         if base::same_bytes(name, name_of(bundle, properties, row[i])) {
             return i;
         }
-        i += 1;
     }
-    i
+    row.len()
 }
 
 // Whether selector s is of the layer of this name.

@@ -44,13 +44,11 @@ pub fn assign_range(
         return row.len();
     }
     let mut n = count;
-    let mut p = from;
-    while p < to {
+    for p in from..to {
         n = assign_property(bundle, properties, row, n, p);
         if n == row.len() {
             return n;
         }
-        p += 1;
     }
     n
 }

@@ -1,20 +1,12 @@
-use Prim.Native.Nat.{◌-◌}
-use native.Mathlib.Omega.{arith}
-use mathlib.Core.Path.{refl, ◌∙◌}
+use mathlib.Core.Path.{◌∙◌}
 use Rattle.canvas.proofs.CanvasLaws.{canvas_end, canvas_found, canvas_next}
 use Rattle.canvas.proofs.any_canvas.Goals as goal
-
-pub loop-s-init : goal.loop-s-init
-loop-s-init c = refl
 
 pub returns-then-word_of-eq2 : goal.returns-then-word_of-eq2
 returns-then-word_of-eq2 c = let a = c.args in
     canvas_found a.selectors.now a.to c.loop-s.s c.loop-s-test.true
     _ c.word_of.ensures c.if-word_of-eq2.true
     ∙ c.loop-s.invariant
-
-pub loop-s-smaller : goal.loop-s-smaller
-loop-s-smaller c = omega arith
 
 pub loop-s-preserved : goal.loop-s-preserved
 loop-s-preserved c = let a = c.args in

@@ -6,6 +6,3 @@ use Rattle.canvas.proofs.any_canvas.Given as goal
 
 abbrev pub invariant-loop-s : goal.invariant-loop-s
 invariant-loop-s l = any_canvas l.selectors (places l.s (l.to - l.s)) ≡ any_canvas l.selectors (places l.from (l.to - l.from))
-
-abbrev pub decreases-loop-s : goal.decreases-loop-s
-decreases-loop-s l = l.to - l.s

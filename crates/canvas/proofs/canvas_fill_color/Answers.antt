@@ -1,4 +1,3 @@
-use borrow.Author.Rules.{rules}
 use Rattle.canvas.proofs.CanvasLaws.{canvas_broken, canvas_colored}
 use Rattle.std.proofs.Common.{ap}
 use mathlib.Core.Bool.{not}

@@ -1,21 +1,13 @@
-use Prim.Native.Nat.{◌-◌}
-use native.Mathlib.Omega.{arith}
-use mathlib.Core.Path.{refl, ◌∙◌}
+use mathlib.Core.Path.{◌∙◌}
 use Rattle.canvas.specs.Canvas.{or_color}
 use Rattle.canvas.proofs.CanvasLaws.{colors_end, colors_step}
 use Rattle.canvas.proofs.first_color.Goals as goal
-
-pub loop-p-init : goal.loop-p-init
-loop-p-init c = refl
-
-pub loop-p-smaller : goal.loop-p-smaller
-loop-p-smaller c = omega arith
 
 pub loop-p-preserved : goal.loop-p-preserved
 unfolding or_color
 loop-p-preserved c = let a = c.args in
     colors_step a.bundle.now a.properties.now a.numbers.now a.name.now a.to c.loop-p.p
-    c.loop-p-test.true _ c.color_at.ensures _ c.in-None.is
+    c.loop-p-test.true _ c.color_at.ensures _ c.in_default.is
     ∙ c.loop-p.invariant
 
 pub returns-in-Some : goal.returns-in-Some

@@ -6,6 +6,3 @@ use Rattle.canvas.proofs.first_color.Given as goal
 
 abbrev pub invariant-loop-p : goal.invariant-loop-p
 invariant-loop-p l = first_color l.bundle l.properties l.numbers l.name (places l.p (l.to - l.p)) ≡ first_color l.bundle l.properties l.numbers l.name (places l.from (l.to - l.from))
-
-abbrev pub decreases-loop-p : goal.decreases-loop-p
-decreases-loop-p l = l.to - l.p

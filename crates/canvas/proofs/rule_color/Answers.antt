@@ -1,4 +1,3 @@
-use borrow.Author.Rules.{rules}
 use Rattle.canvas.proofs.CanvasLaws.{rule_canvas, rule_other}
 use Rattle.canvas.proofs.rule_color.Goals as goal
 

@@ -1,7 +1,4 @@
-use Prim.Native.Nat.{◌-◌}
-use native.Mathlib.Omega.{arith}
 use mathlib.Core.Path.{◌∙◌}
-use borrow.Author.Rules.{rules}
 use Rattle.canvas.specs.Canvas.{or_color, rules_color}
 use Rattle.canvas.proofs.CanvasLaws.{all_left, rules_end, rules_step}
 use Rattle.canvas.proofs.rules_color.Goals as goal
@@ -12,15 +9,12 @@ loop-r-init c = let a = c.args in
     (rules_color a.bundle.now a.rules.now a.selectors.now a.properties.now a.numbers.now a.name.now)
     a.total
 
-pub loop-r-smaller : goal.loop-r-smaller
-loop-r-smaller c = omega arith
-
 pub loop-r-preserved : goal.loop-r-preserved
 unfolding or_color
 loop-r-preserved c = let a = c.args in
     rules_step a.bundle.now a.rules.now a.selectors.now a.properties.now a.numbers.now a.name.now a.total
     c.loop-r.r c.loop-r-test.true _ _
-    c.rule_color.ensures c.in-None.is
+    c.rule_color.ensures c.in_default.is
     ∙ c.loop-r.invariant
 
 pub returns-in-Some : goal.returns-in-Some

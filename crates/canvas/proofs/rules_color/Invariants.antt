@@ -1,6 +1,5 @@
 use Prim.Native.Nat.{◌-◌}
 use mathlib.Core.Path.{◌≡◌}
-use borrow.Author.Rules.{rules}
 use Rattle.decode.specs.Decode.{places}
 use Rattle.canvas.specs.Canvas.{rules_color}
 use Rattle.canvas.proofs.rules_color.Given as goal
@@ -8,6 +7,3 @@ use Rattle.canvas.proofs.rules_color.Given as goal
 abbrev pub invariant-loop-r : goal.invariant-loop-r
 invariant-loop-r l = rules_color l.bundle l.rules l.selectors l.properties l.numbers l.name (places l.r (l.total - l.r))
     ≡ rules_color l.bundle l.rules l.selectors l.properties l.numbers l.name (places 0 l.total)
-
-abbrev pub decreases-loop-r : goal.decreases-loop-r
-decreases-loop-r l = l.total - l.r

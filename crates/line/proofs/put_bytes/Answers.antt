@@ -1,22 +1,16 @@
 use native.Mathlib.Omega.{arith}
 use mathlib.Core.Path.{refl, ◌∙◌}
 use Rattle.line.proofs.LineLaws.{put_end, put_more}
-use Prim.Native.Nat.{◌-◌}
 use Rattle.line.proofs.put_bytes.Goals as goal
 
-pub loop-i-init : goal.loop-i-init
-loop-i-init c = (refl, omega arith, refl)
+pub loop-b-init : goal.loop-b-init
+loop-b-init c = (refl, refl)
 
-pub loop-i-preserved : goal.loop-i-preserved
-loop-i-preserved c = let a = c.args in
-    let l = c.loop-i in
-    let call = c.put_byte-m in (
-      call.auto.out ∙ l.invariant.0,
-      omega arith,
-      put_more _ _ a.s.now l.i c.loop-i-test.true call.ensures ∙ l.invariant.2,
-    )
+pub loop-b-preserved : goal.loop-b-preserved
+loop-b-preserved c = let call = c.put_byte-m in (
+  call.auto.out ∙ c.loop-b.invariant.0,
+  put_more _ _ c.args.s.now c.loop-b.b-index (omega arith) call.ensures ∙ c.loop-b.invariant.1,
+)
 
 pub returns : goal.returns
-returns c = let a = c.args in
-    let l = c.loop-i in
-    put_end (l.m, l.out) a.s.now l.i c.loop-i-test.false ∙ l.invariant.2
+returns c = put_end (c.loop-b.m, c.loop-b.out) c.args.s.now c.loop-b.b-index (omega arith) ∙ c.loop-b.invariant.1

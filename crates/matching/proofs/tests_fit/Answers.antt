@@ -1,5 +1,3 @@
-use Prim.Native.Nat.{◌-◌}
-use native.Mathlib.Omega.{arith}
 use mathlib.Core.Path.{refl, ◌∙◌}
 use Rattle.entity.specs.Layout.{value_of}
 use Rattle.decode.specs.Decode.{test_at}
@@ -36,9 +34,6 @@ returns-in-Misses c = tests_step
     c.loop-k.k c.loop-k-test.true _
     c.test_fits.ensures _ c.in-Misses.is
     ∙ c.loop-k.invariant
-
-pub loop-k-smaller : goal.loop-k-smaller
-loop-k-smaller c = omega arith
 
 pub loop-k-preserved : goal.loop-k-preserved
 loop-k-preserved c = tests_step

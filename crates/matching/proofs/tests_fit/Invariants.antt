@@ -1,4 +1,4 @@
-use Prim.Native.Nat.{◌-◌}
+-- What the loop of tests_fit keeps: the tests that are left answer as all do.
 use mathlib.Core.Path.{◌≡◌}
 use Rattle.entity.specs.Layout.{value_of}
 use Rattle.decode.specs.Decode.{test_at}
@@ -6,8 +6,5 @@ use Rattle.matching.proofs.Selectors.{left_fit}
 use Rattle.matching.proofs.tests_fit.Given as goal
 
 abbrev pub invariant-loop-k : goal.invariant-loop-k
-invariant-loop-k l = left_fit (value_of l.entity l.e) (test_at l.bundle l.tests l.numbers) l.range.to l.k
-    ≡ left_fit (value_of l.entity l.e) (test_at l.bundle l.tests l.numbers) l.range.to l.range.from
-
-abbrev pub decreases-loop-k : goal.decreases-loop-k
-decreases-loop-k l = l.range.to - l.k
+invariant-loop-k l = left_fit (value_of l.entity l.e) (test_at l.bundle l.tests l.numbers) l.fn.range.to l.k
+    ≡ left_fit (value_of l.entity l.e) (test_at l.bundle l.tests l.numbers) l.fn.range.to l.fn.range.from

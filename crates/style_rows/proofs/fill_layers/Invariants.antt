@@ -1,4 +1,3 @@
-use Prim.Native.Nat.{◌-◌, ◌≤◌}
 use mathlib.Core.List.{◌++◌, map}
 use mathlib.Core.Path.{◌≡◌}
 use lib.ListN.{take, drop}
@@ -6,7 +5,4 @@ use Rattle.style_rows.specs.Rows.{row_layer}
 use Rattle.style_rows.proofs.fill_layers.Given as goal
 
 abbrev pub invariant-loop-k : goal.invariant-loop-k
-invariant-loop-k l = (l.k ≤ l.n) × (l.layers ≡ map row_layer (take l.k l.all) ++ drop l.k l.initial.layers)
-
-abbrev pub decreases-loop-k : goal.decreases-loop-k
-decreases-loop-k l = l.n - l.k
+invariant-loop-k l = l.layers ≡ map row_layer (take l.k l.all) ++ drop l.k l.initial.layers

@@ -1,4 +1,4 @@
-use Prim.Native.Nat.{◌*◌, ◌-◌, ◌≤◌}
+use Prim.Native.Nat.{◌*◌}
 use mathlib.Core.List.{◌++◌, map}
 use mathlib.Core.Path.{◌≡◌}
 use lib.ListN.{take, drop}
@@ -7,7 +7,4 @@ use Rattle.style_rows.specs.Rows.{row_words}
 use Rattle.style_rows.proofs.fill_words.Given as goal
 
 abbrev pub invariant-loop-k : goal.invariant-loop-k
-invariant-loop-k l = (l.k ≤ l.n) × (l.words ≡ flat (map row_words (take l.k l.all)) ++ drop (l.k * 52) l.initial.words)
-
-abbrev pub decreases-loop-k : goal.decreases-loop-k
-decreases-loop-k l = l.n - l.k
+invariant-loop-k l = l.words ≡ flat (map row_words (take l.k l.all)) ++ drop (l.k * 52) l.initial.words

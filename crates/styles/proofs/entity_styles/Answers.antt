@@ -1,4 +1,3 @@
-use borrow.Author.Rules.{rules}
 use Rattle.styles.proofs.StylesLaws.{styles_broken, styles_bad, styles_walked}
 use Rattle.std.proofs.Common.{ap}
 use mathlib.Core.Bool.{not}

@@ -1,19 +1,16 @@
-use Prim.Native.Nat.{◌-◌}
 use native.Mathlib.Omega.{arith}
 use Rattle.styles.proofs.StylesLaws.{filled_none, star_next, layer_next, filled_all}
 use Rattle.styles.proofs.filled_layers.Goals as goal
 
 pub loop-i-init : goal.loop-i-init
-loop-i-init c = (omega arith, omega arith, omega arith, filled_none _ _ _ c.blank_layer-layers.ensures)
+loop-i-init c = (omega arith, filled_none _ _ _ c.blank_layer-layers.ensures)
 
 pub loop-i-preserved-then-is_layer : goal.loop-i-preserved-then-is_layer
 loop-i-preserved-then-is_layer c = let a = c.args in
     let loop = c.loop-i in (
       omega arith,
-      omega arith,
-      omega arith,
       star_next a.bundle.now a.selectors.now a.properties.now a.numbers.now a.maps.now a.n a.kind a.layer
-          a.settings loop.i loop.count _ loop.invariant.3 _ c.word_at-s.ensures _
+          a.settings loop.i loop.count _ loop.invariant.1 _ c.word_at-s.ensures _
           c.is_layer.ensures
           c.if-is_layer.true,
     )
@@ -22,10 +19,8 @@ pub loop-i-preserved : goal.loop-i-preserved
 loop-i-preserved c = let a = c.args in
     let loop = c.loop-i in (
       omega arith,
-      omega arith,
-      omega arith,
       layer_next a.bundle.now a.selectors.now a.properties.now a.numbers.now a.maps.now a.n a.kind a.layer
-          a.settings loop.i loop.count _ loop.invariant.3 _
+          a.settings loop.i loop.count _ loop.invariant.1 _
           c.word_at-s.ensures _
           c.is_layer.ensures
           c.if-is_layer.false
@@ -39,4 +34,4 @@ returns c = let a = c.args in
     let loop = c.loop-i in
     filled_all a.bundle.now a.selectors.now a.properties.now a.numbers.now a.maps.now a.n
     a.kind a.layer a.settings
-    loop.i loop.count _ (omega arith) loop.invariant.3
+    loop.i loop.count _ (omega arith) loop.invariant.1

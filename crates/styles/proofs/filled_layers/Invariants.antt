@@ -1,9 +1,6 @@
-use Prim.Native.Nat.{◌≤◌, ◌-◌}
+use Prim.Native.Nat.{◌≤◌}
 use Rattle.styles.proofs.StylesLaws.{StyledTo}
 use Rattle.styles.proofs.filled_layers.Given as goal
 
 abbrev pub invariant-loop-i : goal.invariant-loop-i
-invariant-loop-i l = (l.i ≤ l.n) × (l.n ≤ 32) × (l.count ≤ l.i) × StyledTo l.bundle l.selectors l.properties l.numbers l.maps l.n l.kind l.layer l.settings l.i l.count l.layers
-
-abbrev pub decreases-loop-i : goal.decreases-loop-i
-decreases-loop-i l = l.n - l.i
+invariant-loop-i l = (l.count ≤ l.i) × StyledTo l.bundle l.selectors l.properties l.numbers l.maps l.n l.kind l.layer l.settings l.i l.count l.layers

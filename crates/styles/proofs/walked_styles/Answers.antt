@@ -1,5 +1,4 @@
 use mathlib.Core.Path.{subst}
-use borrow.Author.Rules.{rules}
 use Rattle.walk.specs.Maps.{few}
 use Rattle.styles.proofs.StylesLaws.{walked_refused, walked_filled}
 use Rattle.styles.proofs.walked_styles.Goals as goal

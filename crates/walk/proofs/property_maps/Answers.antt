@@ -1,7 +1,6 @@
 use Rattle.walk.proofs.WalkLaws.{zeroed, maps_broken, maps_bad, maps_walked}
 use lib.ListN.{length}
 use native.Mathlib.Omega.{arith}
-use borrow.Author.Rules.{rules}
 use Rattle.std.proofs.Common.{ap}
 use mathlib.Core.Bool.{not}
 use Rattle.walk.proofs.property_maps.Goals as goal

@@ -1,7 +1,6 @@
 use Rattle.walk.proofs.WalkLaws.{zeroed, walk_many, walk_done}
 use lib.ListN.{length}
 use native.Mathlib.Omega.{arith}
-use borrow.Author.Rules.{rules}
 use Rattle.walk.proofs.walk_entity.Goals as goal
 
 pub returns-then-total-gt16384 : goal.returns-then-total-gt16384

@@ -1,7 +1,5 @@
-use Prim.Native.Nat.{◌-◌}
 use native.Mathlib.Omega.{arith}
 use mathlib.Core.Path.{refl, sym, ◌∙◌, subst}
-use borrow.Author.Rules.{rules}
 use Rattle.base.proofs.Options.{handed_on}
 use Rattle.walk.proofs.LayerLaws.{told_stop}
 use Rattle.walk.proofs.WalkLaws.{selectors_end, selectors_stop, selectors_next, rule_is}
@@ -13,7 +11,7 @@ loop-s-init c = let a = c.args in
     let h = c.requires in (
       h.2,
       h.0,
-      rule_is _ _ _ a.rules.now a.t.now a.n a.r _ _ _ _ c.word_at-s.ensures
+      rule_is _ _ _ a.rules.now a.t.now a.n a.r _ _ _ _ c.word_at-start.ensures
           c.word_at-end.ensures c.word_at-from.ensures c.word_at-to.ensures,
     )
 

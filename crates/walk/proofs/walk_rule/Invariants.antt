@@ -1,7 +1,7 @@
+-- What the loop of walk_rule keeps: the selectors that are left answer as all of the rule do.
 use Prim.Native.Nat.{◌≤◌, ◌-◌}
 use mathlib.Core.Path.{◌≡◌}
 use lib.ListN.{length}
-use borrow.Author.Rules.{rules}
 use Rattle.decode.specs.Decode.{name_at, places}
 use Rattle.walk.specs.Selectors.{layer_in, verdict_in}
 use Rattle.walk.specs.Run.{selectors_of, rule_of}
@@ -13,6 +13,3 @@ invariant-loop-s l = (length l.t ≡ 4323) × (l.m ≤ 32) ×
     (verdict_in l.bundle l.selectors l.tests l.numbers l.zoom l.entity l.e) l.t l.m l.s (l.end - l.s) (places l.from (l.to - l.from)) ≡
     rule_of (name_at l.bundle l.properties) (layer_in l.bundle l.selectors)
     (verdict_in l.bundle l.selectors l.tests l.numbers l.zoom l.entity l.e) l.rules l.initial.t l.n l.r)
-
-abbrev pub decreases-loop-s : goal.decreases-loop-s
-decreases-loop-s l = l.end - l.s

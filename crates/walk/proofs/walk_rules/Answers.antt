@@ -1,7 +1,5 @@
-use Prim.Native.Nat.{◌-◌}
 use native.Mathlib.Omega.{arith}
 use mathlib.Core.Path.{refl, sym, ◌∙◌, ap, subst}
-use borrow.Author.Rules.{rules}
 use Rattle.decode.specs.Decode.{name_at}
 use Rattle.base.proofs.Options.{handed_on}
 use Rattle.walk.proofs.WalkLaws.{rules_end, rules_stop, rules_next}

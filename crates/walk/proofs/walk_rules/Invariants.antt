@@ -1,7 +1,7 @@
+-- What the loop of walk_rules keeps: the rules that are left answer as all do.
 use Prim.Native.Nat.{◌≤◌, ◌-◌}
 use mathlib.Core.Path.{◌≡◌}
 use lib.ListN.{length}
-use borrow.Author.Rules.{rules}
 use Rattle.decode.specs.Decode.{name_at}
 use Rattle.walk.specs.Selectors.{layer_in, verdict_in}
 use Rattle.walk.specs.Run.{rules_of}
@@ -13,6 +13,3 @@ invariant-loop-r l = (length l.t ≡ 4323) × (l.m ≤ 32) ×
     (verdict_in l.bundle l.selectors l.tests l.numbers l.zoom l.entity l.e) l.rules l.t l.m l.r (l.total - l.r) ≡ rules_of
     (name_at l.bundle l.properties) (layer_in l.bundle l.selectors)
     (verdict_in l.bundle l.selectors l.tests l.numbers l.zoom l.entity l.e) l.rules l.initial.t 0 0 l.total)
-
-abbrev pub decreases-loop-r : goal.decreases-loop-r
-decreases-loop-r l = l.total - l.r

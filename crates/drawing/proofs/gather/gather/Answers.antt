@@ -1,7 +1,5 @@
-use Prim.Native.Nat.{◌-◌}
 use mathlib.Core.Path.{refl, sym, ◌∙◌, subst}
 use native.Mathlib.Omega.{arith}
-use borrow.Author.Rules.{rules}
 use Rattle.base.proofs.Options.{handed_on, ok_is}
 use Rattle.base.specs.Choice.{via}
 use Rattle.drawing.specs.Gather.{keys_at, IsBounded}

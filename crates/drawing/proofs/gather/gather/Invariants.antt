@@ -1,7 +1,6 @@
 use Prim.Native.Nat.{◌-◌, ◌≤◌}
 use mathlib.Core.Path.{◌≡◌}
 use lib.ListN.{length}
-use borrow.Author.Rules.{rules}
 use Rattle.drawing.specs.Gather.{keys_at}
 use Rattle.drawing.proofs.GatherLaws.{Left}
 use Rattle.drawing.proofs.gather.gather.Given as goal

@@ -1,4 +1,4 @@
-use Prim.Native.Nat.{◌+◌, ◌-◌}
+use Prim.Native.Nat.{◌+◌}
 use native.Mathlib.Omega.{arith}
 use Rattle.order.specs.Keys.{key_at}
 use Rattle.drawing.specs.Gather.{keys_at}
@@ -8,7 +8,6 @@ use Rattle.drawing.proofs.keys.push_layers.Goals as goal
 
 pub loop-i-init : goal.loop-i-init
 loop-i-init c = let a = c.args in (
-  omega arith,
   omega arith,
   omega arith,
   omega arith,
@@ -24,15 +23,14 @@ pub loop-i-preserved-then-is_layer : goal.loop-i-preserved-then-is_layer
 loop-i-preserved-then-is_layer c = let a = c.args in
     let l = c.loop-i in (
       omega arith,
-      omega arith,
+      l.invariant.1,
       l.invariant.2,
       l.invariant.3,
       l.invariant.4,
-      l.invariant.5,
       push_skip a.bundle.now a.selectors.now a.properties.now a.numbers.now a.for_labels
           a.multipolygons a.place a.kind
           a.id a.layer a.maps.now a.m a.room
-          (keys_at l.layers l.zs l.words (a.n + l.k)) l.i l.k _ l.invariant.6
+          (keys_at l.layers l.zs l.words (a.n + l.k)) l.i l.k _ l.invariant.5
           c.loop-i-test.true _
           c.word_at.ensures _ c.is_layer.ensures c.if-is_layer.true,
     )
@@ -44,7 +42,7 @@ returns-then-room-n c = let a =
       words_after = push_stop a.bundle.now a.selectors.now a.properties.now a.numbers.now a.for_labels
           a.multipolygons a.place a.kind
           a.id a.layer a.maps.now a.m a.room
-          (keys_at l.layers l.zs l.words (a.n + l.k)) l.i l.k _ l.invariant.6
+          (keys_at l.layers l.zs l.words (a.n + l.k)) l.i l.k _ l.invariant.5
           c.loop-i-test.true _
           c.word_at.ensures _
           c.is_layer.ensures c.if-is_layer.false
@@ -59,14 +57,13 @@ loop-i-preserved c = let a =
     c.loop-i in (
       omega arith,
       omega arith,
-      omega arith,
-      omega (arith, c.put_key.auto.layers, l.invariant.3),
-      omega (arith, c.put_key.auto.zs, l.invariant.4),
-      omega (arith, c.put_key.auto.words, l.invariant.5),
+      omega (arith, c.put_key.auto.layers, l.invariant.2),
+      omega (arith, c.put_key.auto.zs, l.invariant.3),
+      omega (arith, c.put_key.auto.words, l.invariant.4),
       keys_next a.bundle.now a.selectors.now a.properties.now a.numbers.now a.for_labels
           a.multipolygons a.place a.kind
           a.id a.layer a.maps.now a.m a.room
-          l.layers l.zs l.words a.n l.i l.k _ l.invariant.6
+          l.layers l.zs l.words a.n l.i l.k _ l.invariant.5
           c.loop-i-test.true _
           c.word_at.ensures _
           c.is_layer.ensures
@@ -83,7 +80,7 @@ returns c = let a = c.args in
       words_after = push_end a.bundle.now a.selectors.now a.properties.now a.numbers.now a.for_labels
           a.multipolygons a.place a.kind
           a.id a.layer a.maps.now a.m a.room
-          (keys_at l.layers l.zs l.words (a.n + l.k)) l.i l.k _ l.invariant.6 c.loop-i-test.false
-          (omega (arith, l.invariant.2, made_length (key_at l.layers l.zs l.words) (a.n + l.k)));
-      IsBounded = l.invariant.2;
+          (keys_at l.layers l.zs l.words (a.n + l.k)) l.i l.k _ l.invariant.5 c.loop-i-test.false
+          (omega (arith, l.invariant.1, made_length (key_at l.layers l.zs l.words) (a.n + l.k)));
+      IsBounded = l.invariant.1;
     }

@@ -1,8 +1,8 @@
-use Rattle.drawing.proofs.KeyLaws.{stream_is, one_of, none_of}
+use borrow.Author.Rules.{rules}
+use Rattle.base.specs.Choice.{pick}
+use Rattle.drawing.specs.Gather.{stream_rank}
 use Rattle.drawing.proofs.keys.stream_rank.Goals as goal
 
-pub returns-then-multipolygons : goal.returns-then-multipolygons
-returns-then-multipolygons c = stream_is c.args.multipolygons 1 (one_of c.args.multipolygons c.if-multipolygons.true)
-
 pub returns : goal.returns
-returns c = stream_is c.args.multipolygons 0 (none_of c.args.multipolygons c.if-multipolygons.false)
+unfolding stream_rank pick
+returns c = search rules

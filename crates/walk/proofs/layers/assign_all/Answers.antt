@@ -9,7 +9,6 @@ use Rattle.walk.proofs.layers.assign_all.Goals as goal
 
 pub loop-i-init : goal.loop-i-init
 loop-i-init c = let a = c.args in (
-  omega arith,
   c.requires.1,
   ap
       (λ k.
@@ -26,26 +25,25 @@ returns-in_err-assign_layer c = let loop = c.loop-i in record {
       loop.i _
       c.loop-i-test.true _ _
       c.assign_layer.ensures.t_after _ c.in_err-assign_layer.was)
-      ∙ loop.invariant.2;
+      ∙ loop.invariant.1;
   IsBounded = subst IsBounded (sym (handed_on _ c.from_residual.ensures)) tt;
 }
 
 pub loop-i-preserved : goal.loop-i-preserved
 loop-i-preserved c = let loop = c.loop-i in (
-  omega arith,
-  omega (arith, loop.invariant.1),
+  omega (arith, loop.invariant.0),
   sym
       (all_next _ loop.t
       c.args.m
       loop.i _
       c.loop-i-test.true _ _
       c.assign_layer.ensures.t_after _ c.in_ok-assign_layer.was)
-      ∙ loop.invariant.2,
+      ∙ loop.invariant.1,
 )
 
 pub returns : goal.returns
 returns c = let loop = c.loop-i in record {
   t_after = sym (all_end _ loop.t c.args.m loop.i _ c.loop-i-test.false)
-      ∙ loop.invariant.2;
+      ∙ loop.invariant.1;
   IsBounded = c.requires.0;
 }

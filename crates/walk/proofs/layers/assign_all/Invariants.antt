@@ -1,4 +1,5 @@
-use Prim.Native.Nat.{◌≤◌, ◌-◌}
+-- What the loop of assign_all keeps: the layers that are left take the table to what all take it to.
+use Prim.Native.Nat.{◌-◌}
 use mathlib.Core.Path.{◌≡◌}
 use lib.ListN.{length}
 use Rattle.decode.specs.Decode.{name_at, places}
@@ -6,9 +7,6 @@ use Rattle.walk.specs.Run.{assign_all}
 use Rattle.walk.proofs.layers.assign_all.Given as goal
 
 abbrev pub invariant-loop-i : goal.invariant-loop-i
-invariant-loop-i l = (l.i ≤ l.m) × (length l.t ≡ 4323) ×
+invariant-loop-i l = (length l.t ≡ 4323) ×
     (assign_all (name_at l.bundle l.properties) l.t l.m l.i (l.m - l.i) (places l.from (l.to - l.from)) ≡ assign_all
     (name_at l.bundle l.properties) l.initial.t l.m 0 l.m (places l.from (l.to - l.from)))
-
-abbrev pub decreases-loop-i : goal.decreases-loop-i
-decreases-loop-i l = l.m - l.i

@@ -1,4 +1,3 @@
-use Prim.Native.Nat.{◌-◌}
 use native.Mathlib.Omega.{arith}
 use mathlib.Core.Path.{sym, ◌∙◌, ap}
 use Rattle.walk.specs.Selectors.{layer_in}
@@ -7,29 +6,22 @@ use Rattle.walk.proofs.LayerLaws.{seek_found, seek_next, seek_end, less_zero}
 use Rattle.walk.proofs.layers.find_named.Goals as goal
 
 pub loop-i-init : goal.loop-i-init
-loop-i-init c = let a = c.args in (
-  omega arith,
-  ap (seek (layer_in a.bundle.now a.selectors.now) a.t.now a.name.now 0) (less_zero a.n),
-)
+loop-i-init c = let a = c.args in
+    ap (seek (layer_in a.bundle.now a.selectors.now) a.t.now a.name.now 0) (less_zero a.n)
 
 pub returns-then-is_layer : goal.returns-then-is_layer
 returns-then-is_layer c = let a = c.args in
     let loop = c.loop-i in
-    sym
-    (seek_found _ a.t.now _ loop.i a.n _ _ c.loop-i-test.true
-    c.word_at.ensures c.is_layer.ensures c.if-is_layer.true)
-    ∙ loop.invariant.1
+    sym (seek_found _ a.t.now _ loop.i a.n _ _ c.loop-i-test.true c.word_at.ensures c.is_layer.ensures c.if-is_layer.true)
+    ∙ loop.invariant
 
 pub loop-i-preserved : goal.loop-i-preserved
 loop-i-preserved c = let a = c.args in
-    let loop = c.loop-i in (
-      omega arith,
-      sym
-          (seek_next _ a.t.now _ loop.i a.n _ _ c.loop-i-test.true
-          c.word_at.ensures c.is_layer.ensures c.if-is_layer.false)
-          ∙ loop.invariant.1,
-    )
+    let loop = c.loop-i in
+    sym (seek_next _ a.t.now _ loop.i a.n _ _ c.loop-i-test.true c.word_at.ensures c.is_layer.ensures c.if-is_layer.false)
+    ∙ loop.invariant
 
 pub returns : goal.returns
 returns c = let a = c.args in
-    let loop = c.loop-i in sym (seek_end _ a.t.now _ loop.i a.n c.loop-i-test.false) ∙ loop.invariant.1
+    let loop = c.loop-i in
+    omega arith ∙ sym (seek_end _ a.t.now _ loop.i a.n c.loop-i-test.false) ∙ loop.invariant

@@ -1,11 +1,9 @@
-use Prim.Native.Nat.{◌≤◌, ◌-◌}
+-- What the loop of find_named keeps: the search from here finds what the whole search finds.
+use Prim.Native.Nat.{◌-◌}
 use mathlib.Core.Path.{◌≡◌}
 use Rattle.walk.specs.Selectors.{layer_in}
 use Rattle.walk.specs.Run.{seek}
 use Rattle.walk.proofs.layers.find_named.Given as goal
 
 abbrev pub invariant-loop-i : goal.invariant-loop-i
-invariant-loop-i l = (l.i ≤ l.n) × (seek (layer_in l.bundle l.selectors) l.t l.name l.i (l.n - l.i) ≡ seek (layer_in l.bundle l.selectors) l.t l.name 0 l.n)
-
-abbrev pub decreases-loop-i : goal.decreases-loop-i
-decreases-loop-i l = l.n - l.i
+invariant-loop-i l = seek (layer_in l.bundle l.selectors) l.t l.name l.i (l.n - l.i) ≡ seek (layer_in l.bundle l.selectors) l.t l.name 0 l.n

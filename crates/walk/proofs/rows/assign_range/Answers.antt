@@ -1,4 +1,3 @@
-use Prim.Native.Nat.{◌-◌}
 use native.Mathlib.Omega.{arith}
 use mathlib.Core.Path.{refl}
 use Rattle.walk.proofs.RowLaws.{filled_before, filled_length, filling_full, filling_step, filling_used, filling_kept}
@@ -17,12 +16,6 @@ pub returns-then-n-row : goal.returns-then-n-row
 returns-then-n-row c = let loop = c.loop-p in
     let call = c.assign_property-n in
     let l = filled_length _ _ _ _ _ _ _ _ loop.invariant _ _ call.ensures.used call.ensures.assigned in record { used = filling_full _ _ _ _ _ _ _ _ loop.invariant _ (omega arith) call.ensures.used (omega (arith, loop.invariant.same_length_lem)); kept = λ less. absurd (omega (arith, loop.invariant.same_length_lem)) }
-
-pub overflow_add-p : goal.overflow_add-p
-overflow_add-p c = omega arith
-
-pub loop-p-smaller : goal.loop-p-smaller
-loop-p-smaller c = omega arith
 
 pub loop-p-preserved : goal.loop-p-preserved
 loop-p-preserved c = let loop = c.loop-p in

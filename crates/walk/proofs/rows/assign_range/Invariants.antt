@@ -1,10 +1,7 @@
-use Prim.Native.Nat.{◌-◌}
+-- What the loop of assign_range keeps: where it stands in the row.
 use Rattle.decode.specs.Decode.{name_at}
 use Rattle.walk.proofs.RowLaws.{Filling}
 use Rattle.walk.proofs.rows.assign_range.Given as goal
 
 abbrev pub invariant-loop-p : goal.invariant-loop-p
 invariant-loop-p l = Filling (name_at l.bundle l.properties) l.initial.row l.count l.from l.to l.row l.n l.p
-
-abbrev pub decreases-loop-p : goal.decreases-loop-p
-decreases-loop-p l = l.to - l.p
