@@ -10,6 +10,17 @@ ghost use Rattle.table.specs.declared.PropertyValue.TheVariants.{Identifier, Sha
 use base::Range;
 use color::Color;
 
+// The tables of a loaded sheet, and the bundle that their names are in.
+#[derive(Clone, Copy)]
+pub struct Tables<'a> {
+    pub bundle: &'a [u8],
+    pub rules: &'a [u32],
+    pub selectors: &'a [u32],
+    pub tests: &'a [u32],
+    pub properties: &'a [u32],
+    pub numbers: &'a [f64],
+}
+
 // A name of the bundle: a range, or two ranges with a colon between them.
 #[derive(Clone, Copy)]
 pub enum Name {
