@@ -2,67 +2,64 @@
 #![tactic(auto)]
 
 ghost use Rattle.std.specs.Prelude.{◌≡◌};
-ghost use Rattle.answers.specs.Answers.{told_load, told_maps, told_styles, count_of, told_color, told_canvas, told_list};
+ghost use Rattle.answers.specs.Answers.{told_load, told_count, count_of, told_color, told_canvas};
 
-use answer_words::{Five, Six, counted, refused};
+use answer_words::{Answer, counted, refused};
 use base::refusal::Refusal;
 use color::Color;
 use parser::Counts;
 
-pub fn told_load(loaded: Result<Counts, Refusal>) -> Six
+#[tactic(auto, unfolding(crate::specs::Answers::told_load))]
+pub fn told_load(loaded: Result<Counts, Refusal>) -> Answer<6>
     ensures { result ≡ told_load loaded }
 {
     match loaded {
-        Err(x) => Six {
+        Err(x) => Answer {
             kind: x.number as u64,
-            a: x.number as u64,
-            b: x.reason as u64,
-            c: x.text as u64,
-            d: x.line as u64,
-            e: x.character as u64,
-            f: 0,
+            words: [
+                x.number as u64,
+                x.reason as u64,
+                x.text as u64,
+                x.line as u64,
+                x.character as u64,
+                0,
+            ],
         },
-        Ok(n) => Six {
+        Ok(n) => Answer {
             kind: 0,
-            a: n.rules as u64,
-            b: n.selectors as u64,
-            c: n.tests as u64,
-            d: n.properties as u64,
-            e: n.numbers as u64,
-            f: n.colors as u64,
+            words: [
+                n.rules as u64,
+                n.selectors as u64,
+                n.tests as u64,
+                n.properties as u64,
+                n.numbers as u64,
+                n.colors as u64,
+            ],
         },
     }
 }
 
-pub fn told_maps(q: Result<usize, Refusal>) -> Five
-    ensures { result ≡ told_maps q }
+// What an answer that is a count tells: of maps and of styles the layers, of a list the entries.
+#[tactic(auto, unfolding(crate::specs::Answers::told_count))]
+pub fn told_count(q: Result<usize, Refusal>) -> Answer<5>
+    ensures { result ≡ told_count q }
 {
     match q {
         Err(x) => refused(x),
-        Ok(layers) => counted(layers),
-    }
-}
-
-pub fn told_styles(q: Result<usize, Refusal>) -> Five
-    ensures { result ≡ told_styles q }
-{
-    match q {
-        Err(refusal) => refused(refusal),
-        Ok(styled) => counted(styled),
+        Ok(n) => counted(n),
     }
 }
 
 // How many layers are styled: none after a refusal.
+#[tactic(auto, unfolding(crate::specs::Answers::count_of))]
 pub fn count_of(q: Result<usize, Refusal>) -> usize
     ensures { result ≡ count_of q }
 {
-    match q {
-        Err(_) => 0,
-        Ok(n) => n,
-    }
+    q.unwrap_or(0)
 }
 
-pub fn told_canvas(q: Result<Option<Color>, Refusal>) -> Five
+#[tactic(auto, unfolding(crate::specs::Answers::told_canvas))]
+pub fn told_canvas(q: Result<Option<Color>, Refusal>) -> Answer<5>
     ensures { result ≡ told_canvas q }
 {
     match q {
@@ -71,34 +68,15 @@ pub fn told_canvas(q: Result<Option<Color>, Refusal>) -> Five
     }
 }
 
-fn told_color(q: Option<Color>) -> Five
+#[tactic(auto, unfolding(crate::specs::Answers::told_color))]
+fn told_color(q: Option<Color>) -> Answer<5>
     ensures { result ≡ told_color q }
 {
     match q {
-        None => Five {
+        None => counted(0),
+        Some(c) => Answer {
             kind: 0,
-            a: 0,
-            b: 0,
-            c: 0,
-            d: 0,
-            e: 0,
+            words: [1, u64::from(c.r), u64::from(c.g), u64::from(c.b), 0],
         },
-        Some(c) => Five {
-            kind: 0,
-            a: 1,
-            b: c.r as u64,
-            c: c.g as u64,
-            d: c.b as u64,
-            e: 0,
-        },
-    }
-}
-
-pub fn told_list(q: Result<usize, Refusal>) -> Five
-    ensures { result ≡ told_list q }
-{
-    match q {
-        Err(r) => refused(r),
-        Ok(entries) => counted(entries),
     }
 }
