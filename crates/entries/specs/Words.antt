@@ -45,6 +45,10 @@ abbrev pub first_of : Name → Range
 first_of (Plain a) = a
 first_of (Joined a b) = a
 
+abbrev pub second_of : Name → Option Range
+second_of (Plain a) = None
+second_of (Joined a b) = Some b
+
 abbrev pub joined_word : Name → ℕ
 joined_word (Plain a) = 0
 joined_word (Joined a b) = 1

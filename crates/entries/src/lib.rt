@@ -1,60 +1,38 @@
 // Storing the entries of a sheet's tables. docs/TABLES.md has every word.
 #![tactic(auto)]
 
-ghost use Rattle.std.specs.Prelude.{◌≡◌, [], ◌∷◌};
+ghost use Rattle.std.specs.Prelude.{◌≡◌, ◌<◌, [], ◌∷◌, length};
 ghost use Rattle.table.specs.Value.{word};
 ghost use Rattle.entries.specs.Put.{put_of};
-ghost use Rattle.entries.specs.Words.{level_word, joined_word, first_of, second_from, second_to, layer_word, layer_from, layer_to, rule_words, selector_words, test_words, property_words, color_words};
+ghost use Rattle.entries.specs.Words.{level_word, first_of, second_of, layer_word, layer_from, layer_to, rule_words, selector_words, test_words, property_words, color_words};
 
-use base::Range;
+use base::{Range, store};
 use color::Color;
 use table::Name;
 
-// Stores a number behind the first n, unless the table is full.
-pub fn put_number(t: &mut [f64], n: usize, x: f64) -> Option<usize>
-    ensures { (result, t.new) ≡ put_of 1 t.old n (x ∷ []) }
+// Stores an entry behind the first n of its size, unless the table is full.
+fn put_entry<T: Copy>(t: &mut [T], n: usize, entry: &[T]) -> Option<usize>
+    requires { 0 < length entry.now }
+    ensures { (result, t.new) ≡ put_of (length entry.now) t.old n entry.now }
 {
     if 16384 <= n {
         return None;
     }
-    if t.len() <= n {
+    if t.len() / entry.len() <= n {
         return None;
     }
-    t[n] = x;
+    let at = n * entry.len();
+    for i in 0..entry.len() {
+        store(t, at + i, entry[i]);
+    }
     Some(n + 1)
 }
 
-// Stores an entry of eight words behind the first n, unless the table is full.
-fn put_entry(
-    t: &mut [u32],
-    n: usize,
-    a: u32,
-    b: u32,
-    c: u32,
-    d: u32,
-    e: u32,
-    f: u32,
-    g: u32,
-    h: u32,
-) -> Option<usize>
-    ensures { (result, t.new) ≡ put_of 8 t.old n (a ∷ b ∷ c ∷ d ∷ e ∷ f ∷ g ∷ h ∷ []) }
+// A number behind the first n.
+pub fn put_number(t: &mut [f64], n: usize, x: f64) -> Option<usize>
+    ensures { (result, t.new) ≡ put_of 1 t.old n (x ∷ []) }
 {
-    if 16384 <= n {
-        return None;
-    }
-    if t.len() / 8 <= n {
-        return None;
-    }
-    let i = n * 8;
-    t[i] = a;
-    t[i + 1] = b;
-    t[i + 2] = c;
-    t[i + 3] = d;
-    t[i + 4] = e;
-    t[i + 5] = f;
-    t[i + 6] = g;
-    t[i + 7] = h;
-    Some(n + 1)
+    put_entry(t, n, &[x])
 }
 
 // A number as a word: its low 32 bits.
@@ -71,14 +49,16 @@ pub fn put_rule(t: &mut [u32], n: usize, selectors: Range, properties: Range) ->
     put_entry(
         t,
         n,
-        1,
-        low(selectors.from),
-        low(selectors.to),
-        low(properties.from),
-        low(properties.to),
-        0,
-        0,
-        0,
+        &[
+            1,
+            low(selectors.from),
+            low(selectors.to),
+            low(properties.from),
+            low(properties.to),
+            0,
+            0,
+            0,
+        ],
     )
 }
 
@@ -94,53 +74,36 @@ pub fn put_selector(
 ) -> Option<usize>
     ensures { (result, t.new) ≡ put_of 8 t.old n (selector_words kind min max tests layer) }
 {
+    let (named, from, to) = range_words(layer);
     put_entry(
         t,
         n,
-        kind as u32,
-        level_word(min),
-        level_word(max),
-        low(tests.from),
-        low(tests.to),
-        layer_word(layer),
-        layer_from(layer),
-        layer_to(layer),
+        &[
+            u32::from(kind),
+            level_word(min),
+            level_word(max),
+            low(tests.from),
+            low(tests.to),
+            named,
+            from,
+            to,
+        ],
     )
 }
 
 fn level_word(z: Option<u8>) -> u32
     ensures { result ≡ level_word z }
 {
-    match z {
-        None => 0,
-        Some(n) => n as u32 + 1,
-    }
+    z.map_or(0, |n| u32::from(n) + 1)
 }
 
-fn layer_word(l: Option<Range>) -> u32
-    ensures { result ≡ layer_word l }
+// Whether there is a range, and its ends.
+fn range_words(r: Option<Range>) -> (u32, u32, u32)
+    ensures { (result.0 ≡ layer_word r) × (result.1 ≡ layer_from r) × (result.2 ≡ layer_to r) }
 {
-    match l {
-        None => 0,
-        Some(_) => 1,
-    }
-}
-
-fn layer_from(l: Option<Range>) -> u32
-    ensures { result ≡ layer_from l }
-{
-    match l {
-        None => 0,
-        Some(r) => low(r.from),
-    }
-}
-
-fn layer_to(l: Option<Range>) -> u32
-    ensures { result ≡ layer_to l }
-{
-    match l {
-        None => 0,
-        Some(r) => low(r.to),
+    match r {
+        None => (0, 0, 0),
+        Some(r) => (1, low(r.from), low(r.to)),
     }
 }
 
@@ -149,17 +112,20 @@ pub fn put_test(t: &mut [u32], n: usize, kind: u8, key: Name, a: usize, b: usize
     ensures { (result, t.new) ≡ put_of 8 t.old n (test_words kind key a b) }
 {
     let first = first_of(key);
+    let (joined, from, to) = range_words(second_of(key));
     put_entry(
         t,
         n,
-        kind as u32,
-        low(first.from),
-        low(first.to),
-        joined_word(key),
-        second_from(key),
-        second_to(key),
-        low(a),
-        low(b),
+        &[
+            u32::from(kind),
+            low(first.from),
+            low(first.to),
+            joined,
+            from,
+            to,
+            low(a),
+            low(b),
+        ],
     )
 }
 
@@ -172,30 +138,12 @@ fn first_of(name: Name) -> Range
     }
 }
 
-fn joined_word(name: Name) -> u32
-    ensures { result ≡ joined_word name }
+fn second_of(name: Name) -> Option<Range>
+    ensures { result ≡ second_of name }
 {
     match name {
-        Name::Plain(_) => 0,
-        Name::Joined(_, _) => 1,
-    }
-}
-
-fn second_from(name: Name) -> u32
-    ensures { result ≡ second_from name }
-{
-    match name {
-        Name::Plain(_) => 0,
-        Name::Joined(_, b) => low(b.from),
-    }
-}
-
-fn second_to(name: Name) -> u32
-    ensures { result ≡ second_to name }
-{
-    match name {
-        Name::Plain(_) => 0,
-        Name::Joined(_, b) => low(b.to),
+        Name::Plain(_) => None,
+        Name::Joined(_, b) => Some(b),
     }
 }
 
@@ -215,14 +163,16 @@ pub fn put_property(
     put_entry(
         t,
         n,
-        kind as u32,
-        low(name.from),
-        low(name.to),
-        low(a),
-        low(b),
-        low(c),
-        low(d),
-        0,
+        &[
+            u32::from(kind),
+            low(name.from),
+            low(name.to),
+            low(a),
+            low(b),
+            low(c),
+            low(d),
+            0,
+        ],
     )
 }
 
@@ -233,13 +183,15 @@ pub fn put_color(t: &mut [u32], n: usize, name: Range, c: Color) -> Option<usize
     put_entry(
         t,
         n,
-        1,
-        low(name.from),
-        low(name.to),
-        c.r as u32,
-        c.g as u32,
-        c.b as u32,
-        0,
-        0,
+        &[
+            1,
+            low(name.from),
+            low(name.to),
+            u32::from(c.r),
+            u32::from(c.g),
+            u32::from(c.b),
+            0,
+            0,
+        ],
     )
 }
