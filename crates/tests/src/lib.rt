@@ -7,6 +7,7 @@ ghost use Rattle.input.specs.Source.{spot};
 ghost use Rattle.keep.specs.Source.{reading};
 ghost use Rattle.input.specs.Text.{name_in, name_of, token_of};
 ghost use Rattle.entries.specs.Words.{test_words};
+ghost use Rattle.tests.specs.Kind.{kind_number};
 ghost use Rattle.tests.specs.Answers.{TestRead, TestsRead, TestKept, NumberTestKept, WordRead, DigitsRead, OperandRead, NumericRead};
 
 use base::Range;
@@ -21,20 +22,43 @@ use keep::{Tally, keep_number, keep_test};
 use table::Name;
 use token_kind::Token;
 
+// The kinds of tests. docs/TABLES.md has their numbers.
+#[derive(Clone, Copy)]
+pub enum TestKind {
+    Exists = 1,
+    NotExists,
+    True,
+    False,
+    TextEqual,
+    TextNotEqual,
+    NumberEqual,
+    NumberNotEqual,
+    Less,
+    LessOrEqual,
+    Greater,
+    GreaterOrEqual,
+}
+
+fn kind_number(kind: TestKind) -> u8
+    ensures { result ≡ kind_number kind }
+{
+    kind as u8
+}
+
 // Stores a test of a kind, with its key and two numbers for its value.
 fn store_test(
     source: Source,
     c: Cursor,
     n: Tally,
-    kind: u8,
+    kind: TestKind,
     key: Name,
     a: usize,
     b: usize,
     tests: &mut [u32],
 ) -> Result<(Cursor, Tally), Refusal>
-    ensures { TestKept source c n (test_words kind key a b) tests.old tests.new result }
+    ensures { TestKept source c n (test_words (kind_number kind) key a b) tests.old tests.new result }
 {
-    match keep_test(tests, n, kind, key, a, b) {
+    match keep_test(tests, n, kind_number(kind), key, a, b) {
         None => Err(refuse_reached(TABLE_FULL, TESTS, source, c)),
         Some(m) => Ok((c, m)),
     }
@@ -45,13 +69,13 @@ fn store_number_test(
     source: Source,
     c: Cursor,
     n: Tally,
-    kind: u8,
+    kind: TestKind,
     key: Name,
     x: f64,
     tests: &mut [u32],
     numbers: &mut [f64],
 ) -> Result<(Cursor, Tally), Refusal>
-    ensures { NumberTestKept source c n kind key x tests.old numbers.old tests.new numbers.new result }
+    ensures { NumberTestKept source c n (kind_number kind) key x tests.old numbers.old tests.new numbers.new result }
 {
     match keep_number(numbers, n, x) {
         None => Err(refuse_reached(TABLE_FULL, NUMBERS, source, c)),
@@ -64,13 +88,13 @@ fn read_word_operand(
     bundle: &[u8],
     source: Source,
     key: Name,
-    kind: u8,
+    kind: TestKind,
     b: Range,
     c: Cursor,
     n: Tally,
     tests: &mut [u32],
 ) -> Result<(Cursor, Tally), Refusal>
-    ensures { WordRead bundle.now source key kind b c n tests.old tests.new result }
+    ensures { WordRead bundle.now source key (kind_number kind) b c n tests.old tests.new result }
 {
     let d = expect_right_bracket(bundle, source, c)?;
     store_test(source, d, n, kind, key, b.from, b.to, tests)
@@ -81,14 +105,14 @@ fn read_digits_operand(
     bundle: &[u8],
     source: Source,
     key: Name,
-    kind: u8,
+    kind: TestKind,
     x: f64,
     c: Cursor,
     n: Tally,
     tests: &mut [u32],
     numbers: &mut [f64],
 ) -> Result<(Cursor, Tally), Refusal>
-    ensures { DigitsRead bundle.now source key kind x c n tests.old numbers.old tests.new numbers.new result }
+    ensures { DigitsRead bundle.now source key (kind_number kind) x c n tests.old numbers.old tests.new numbers.new result }
 {
     let d = expect_right_bracket(bundle, source, c)?;
     if digits::is_whole(x) {
@@ -102,14 +126,14 @@ fn read_operand(
     bundle: &[u8],
     source: Source,
     key: Name,
-    words: u8,
-    figures: u8,
+    words: TestKind,
+    figures: TestKind,
     c: Cursor,
     n: Tally,
     tests: &mut [u32],
     numbers: &mut [f64],
 ) -> Result<(Cursor, Tally), Refusal>
-    ensures { OperandRead bundle.now source key words figures c n tests.old numbers.old tests.new numbers.new result }
+    ensures { OperandRead bundle.now source key (kind_number words) (kind_number figures) c n tests.old numbers.old tests.new numbers.new result }
 {
     let (t, o, d) = read_mandatory_token(bundle, source, c)?;
     match t {
@@ -126,13 +150,13 @@ fn read_number(
     bundle: &[u8],
     source: Source,
     key: Name,
-    kind: u8,
+    kind: TestKind,
     c: Cursor,
     n: Tally,
     tests: &mut [u32],
     numbers: &mut [f64],
 ) -> Result<(Cursor, Tally), Refusal>
-    ensures { NumericRead bundle.now source key kind c n tests.old numbers.old tests.new numbers.new result }
+    ensures { NumericRead bundle.now source key (kind_number kind) c n tests.old numbers.old tests.new numbers.new result }
 {
     let (x, d) = read_figure(bundle, source, c)?;
     let f = expect_right_bracket(bundle, source, d)?;
@@ -152,10 +176,10 @@ fn read_question(
 {
     let (t, o, d) = read_mandatory_token(bundle, source, c)?;
     match t {
-        Token::RightBracket => store_test(source, d, n, 3, key, 0, 0, tests),
+        Token::RightBracket => store_test(source, d, n, TestKind::True, key, 0, 0, tests),
         Token::Bang => {
             let f = expect_right_bracket(bundle, source, d)?;
-            store_test(source, f, n, 4, key, 0, 0, tests)
+            store_test(source, f, n, TestKind::False, key, 0, 0, tests)
         }
         _ => Err(refuse(PARSE, UNEXPECTED_TOKEN, o)),
     }
@@ -176,13 +200,51 @@ fn plain_test(
     ensures { TestsRead bundle.now source c n tests.old numbers.old tests.new numbers.new (λ τ. plain_test (reading bundle.now) (name_of bundle.now key) τ (token_of bundle.now t) o (spot source c)) result }
 {
     match t {
-        Token::Equal => read_operand(bundle, source, key, 5, 7, c, n, tests, numbers),
-        Token::NotEqual => read_operand(bundle, source, key, 6, 8, c, n, tests, numbers),
-        Token::Less => read_number(bundle, source, key, 9, c, n, tests, numbers),
-        Token::LessOrEqual => read_number(bundle, source, key, 10, c, n, tests, numbers),
-        Token::Greater => read_number(bundle, source, key, 11, c, n, tests, numbers),
-        Token::GreaterOrEqual => read_number(bundle, source, key, 12, c, n, tests, numbers),
-        Token::RightBracket => store_test(source, c, n, 1, key, 0, 0, tests),
+        Token::Equal => read_operand(
+            bundle,
+            source,
+            key,
+            TestKind::TextEqual,
+            TestKind::NumberEqual,
+            c,
+            n,
+            tests,
+            numbers,
+        ),
+        Token::NotEqual => read_operand(
+            bundle,
+            source,
+            key,
+            TestKind::TextNotEqual,
+            TestKind::NumberNotEqual,
+            c,
+            n,
+            tests,
+            numbers,
+        ),
+        Token::Less => read_number(bundle, source, key, TestKind::Less, c, n, tests, numbers),
+        Token::LessOrEqual => read_number(
+            bundle,
+            source,
+            key,
+            TestKind::LessOrEqual,
+            c,
+            n,
+            tests,
+            numbers,
+        ),
+        Token::Greater => read_number(bundle, source, key, TestKind::Greater, c, n, tests, numbers),
+        Token::GreaterOrEqual => read_number(
+            bundle,
+            source,
+            key,
+            TestKind::GreaterOrEqual,
+            c,
+            n,
+            tests,
+            numbers,
+        ),
+        Token::RightBracket => store_test(source, c, n, TestKind::Exists, key, 0, 0, tests),
         Token::QuestionMark => read_question(bundle, source, key, c, n, tests),
         _ => Err(refuse(PARSE, UNEXPECTED_TOKEN, o)),
     }
@@ -201,7 +263,7 @@ fn read_bang_question(
 {
     let (t, o, d) = read_mandatory_token(bundle, source, c)?;
     match t {
-        Token::RightBracket => store_test(source, d, n, 4, key, 0, 0, tests),
+        Token::RightBracket => store_test(source, d, n, TestKind::False, key, 0, 0, tests),
         _ => Err(refuse(PARSE, UNEXPECTED_TOKEN, o)),
     }
 }
@@ -220,7 +282,7 @@ fn bang_test(
     ensures { TestRead bundle.now source c n tests.old tests.new (λ τ. bang_test (reading bundle.now) (name_of bundle.now key) τ (token_of bundle.now t) o (spot source c)) result }
 {
     match t {
-        Token::RightBracket => store_test(source, c, n, 2, key, 0, 0, tests),
+        Token::RightBracket => store_test(source, c, n, TestKind::NotExists, key, 0, 0, tests),
         Token::QuestionMark => read_bang_question(bundle, source, key, c, n, tests),
         _ => Err(refuse(PARSE, UNEXPECTED_TOKEN, o)),
     }
