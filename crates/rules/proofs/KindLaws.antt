@@ -1,9 +1,9 @@
 -- Object types, and colors blocks token by token.
 use Prim.Native.Nat.{ℕ, zero, suc, ◌≤◌}
 use native.Mathlib.Omega.{arith}
-use mathlib.Core.Path.{◌≡◌}
+use mathlib.Core.Path.{◌≡◌, refl}
 use mathlib.Core.Bool.{true, false}
-use mathlib.Core.Option.{Option}
+use mathlib.Core.Option.{Option as Option'}
 use Rattle.base.specs.Bytes.{Bytes}
 use Rattle.base.specs.declared.refusal.Refusal.{Refusal}
 use Rattle.cursor.specs.declared.Cursor.{Cursor}
@@ -12,18 +12,27 @@ use Rattle.grammar.specs.Token.{right_brace}
 use Rattle.grammar.specs.View.{is_sign}
 use Rattle.grammar.specs.Input.{on_option}
 use Rattle.grammar.specs.Reader.{skip_colors}
-use Rattle.sheet.specs.Sheet.{ObjectType}
+use Rattle.sheet.specs.Sheet.{ObjectType, all, canvas, meta, node, way, area}
 use Rattle.keep.specs.Lent.{type_number}
 use Rattle.input.specs.Text.{token_of, left, mandatory_of}
 use Rattle.input.specs.declared.Place.{Place}
 use Rattle.input.specs.declared.Source.{Source}
-use Rattle.rules.specs.Kind.{Skips, unskipped, skipped, SkipsFrom}
+use Rattle.rules.specs.declared.kind.ObjectKind.{ObjectKind}
+use Rattle.rules.specs.Kind.{kind_of, kind_number, Skips, unskipped, skipped, SkipsFrom}
 use Rattle.keep.proofs.Laws.{no_token, got, yes_way, no_way}
-use Rattle.std.specs.Prelude.{Result, Ok, Err}
+use Rattle.std.specs.Prelude.{Option, Some, None, Result, Ok, Err}
 
--- a number is that of an object type, or of none
-abbrev pub Numbered : ℕ → Option ObjectType → Type 0
-Numbered n o = n ≡ on_option o 0 type_number
+-- the object type that the code finds is the grammar's
+abbrev pub Found : Option ObjectKind → Option' ObjectType → Type 0
+Found k o = k ≡ on_option o None (λ y. Some (kind_of y))
+
+pub same_number : (y : ObjectType) → type_number y ≡ kind_number (kind_of y)
+same_number all = refl
+same_number canvas = refl
+same_number meta = refl
+same_number node = refl
+same_number way = refl
+same_number area = refl
 
 -- ---- colors blocks
 

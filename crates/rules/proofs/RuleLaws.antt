@@ -10,11 +10,11 @@ use Rattle.base.specs.Choice.{different}
 use Rattle.base.specs.declared.Range.{Range}
 use Rattle.base.specs.declared.refusal.Refusal.{Refusal}
 use Rattle.cursor.specs.declared.Cursor.{Cursor}
-use Rattle.sheet.specs.Sheet.{ObjectType, all, canvas, meta, node, way, area}
+use Rattle.sheet.specs.Sheet.{ObjectType}
 use Rattle.token_kind.specs.declared.Token.{Token}
 use Rattle.grammar.specs.Token.{Token as Token', left_brace}
 use Rattle.grammar.specs.Reading.{Selector, Rule, Colors, bare, add_selector, with_zoom, with_test, with_layer, Test, id_to_object_type}
-use Rattle.grammar.specs.Input.{selector_entry, rule_entry, object_type, Answer, refused, read, on_option, after, keep}
+use Rattle.grammar.specs.Input.{selector_entry, rule_entry, Answer, refused, read, on_option, after, keep}
 use Rattle.grammar.specs.Reader.{is_colors, read_mandatory_token, read_test, keep_selector, read_parts, read_selector, read_body, read_block, read_rule}
 use types.Run.{OneOf}
 use denote.Enum.Declared.{tag_of}
@@ -29,7 +29,9 @@ use Rattle.input.specs.Text.{left, name_in, level_of, token_of, refusal_at, reac
 use Rattle.input.specs.declared.Place.{Place}
 use Rattle.input.specs.declared.Source.{Source}
 use Rattle.keep.specs.declared.Tally.{Tally}
-use Rattle.rules.specs.Kind.{object_number, Skips, unskipped, skipped}
+use Rattle.rules.specs.declared.kind.ObjectKind.{ObjectKind}
+use Rattle.rules.proofs.KindLaws.{same_number}
+use Rattle.rules.specs.Kind.{object_kind, kind_of, kind_number, Skips, unskipped, skipped}
 use Rattle.rules.specs.Rules.{Ways, Parts, bad_part, is_closing, is_zoom, is_bracket, is_class, is_layer, Shown, Selects, no_selector, one_selector, Chooses, unchosen, last_chosen, next_chosen, Starts, bad_start, body, colors_block, object, start_of}
 use Rattle.rules.specs.declared.Choice.{Choice}
 use Rattle.rules.specs.declared.Choice.TheVariants.{LastChosen, NextChosen}
@@ -286,15 +288,15 @@ module _ (Q : Answer Rule Spot Lent Refusal → Type 0) {B C : Answer Rule Spot 
   start_colors (object y p) q k = different cc
 
   pub start_object :
-      {r : Result Start Refusal} {a : Answer Rule Spot Lent Refusal} {kind : ℕ}
+      {r : Result Start Refusal} {a : Answer Rule Spot Lent Refusal} {kind : ObjectKind}
       → Starts B C O K r a
       → r ≡ Ok (Object kind)
-      → ((y : ObjectType) → type_number y ≡ kind → Q (after (O y) K))
+      → ((y : ObjectType) → type_number y ≡ kind_number kind → Q (after (O y) K))
       → Q a
   start_object (bad_start p) q k = different cc
   start_object body q k = different cc
   start_object colors_block q k = different cc
-  start_object {kind = kind} (object y {kind = n} p) q k = let z : n ≡ kind = cc in k y (p ∙ z)
+  start_object {kind = kind} (object y {kind = n} p) q k = let z : n ≡ kind = cc in k y (p ∙ ap kind_number z)
 
 pub start_as :
     (Q : Answer Rule Spot Lent Refusal → Type 0) (bundle : Bytes) (o : Place) (τ : Lent) (B C : Answer Rule Spot Lent Refusal) (O : ObjectType → Answer (Selector × Bool) Spot Lent Refusal) (K : Selector × Bool → Spot → Lent → Answer Rule Spot Lent Refusal) {t v : Token}
@@ -426,30 +428,22 @@ module _ {A : Type 0} (Q : Answer A Spot Lent Refusal → Type 0) {bundle : Byte
       let z : d ≡ f = cc in
       subst (λ f. Q (k tt (spot s f) τ)) z (g (subst (λ f. left bundle s f ≤ b) (sym z) l))
 
-positive : (y : ObjectType) → type_number y ≡ 0 → ⊥
-positive all e = absurd (omega arith)
-positive canvas e = absurd (omega arith)
-positive meta e = absurd (omega arith)
-positive node e = absurd (omega arith)
-positive way e = absurd (omega arith)
-positive area e = absurd (omega arith)
-
 module _ (Q : Answer Rule Spot Lent Refusal → Type 0) (name : Bytes) (f : Answer (Selector × Bool) Spot Lent Refusal) (O : ObjectType → Answer (Selector × Bool) Spot Lent Refusal) (K : Selector × Bool → Spot → Lent → Answer Rule Spot Lent Refusal) where
-  pub no_object : object_number name ≡ 0 → Q (after f K) → Q (after (on_option (id_to_object_type name) f O) K)
-  unfolding object_number on_option
+  pub no_object : object_kind name ≡ None → Q (after f K) → Q (after (on_option (id_to_object_type name) f O) K)
+  unfolding object_kind on_option
   no_object = go (id_to_object_type name)
     where
-      go : (o : Option' ObjectType) → on_option o 0 type_number ≡ 0 → Q (after f K) → Q (after (on_option o f O) K)
+      go : (o : Option' ObjectType) → on_option o None (λ y. Some (kind_of y)) ≡ None → Q (after f K) → Q (after (on_option o f O) K)
       go none e q = q
-      go (some y) e q = absurd (positive y e)
+      go (some y) e q = different cc
 
-  pub an_object : {kind : ℕ} → object_number name ≡ kind → (kind ≡ 0 → ⊥) → ((y : ObjectType) → type_number y ≡ kind → Q (after (O y) K)) → Q (after (on_option (id_to_object_type name) f O) K)
-  unfolding object_number on_option
+  pub an_object : {kind : ObjectKind} → object_kind name ≡ Some kind → ((y : ObjectType) → type_number y ≡ kind_number kind → Q (after (O y) K)) → Q (after (on_option (id_to_object_type name) f O) K)
+  unfolding object_kind on_option
   an_object {kind} = go (id_to_object_type name)
     where
-      go : (o : Option' ObjectType) → on_option o 0 type_number ≡ kind → (kind ≡ 0 → ⊥) → ((y : ObjectType) → type_number y ≡ kind → Q (after (O y) K)) → Q (after (on_option o f O) K)
-      go none e n q = absurd (n (sym e))
-      go (some y) e n q = q y e
+      go : (o : Option' ObjectType) → on_option o None (λ y. Some (kind_of y)) ≡ Some kind → ((y : ObjectType) → type_number y ≡ kind_number kind → Q (after (O y) K)) → Q (after (on_option o f O) K)
+      go none e q = different cc
+      go (some y) e q = let z : kind_of y ≡ kind = cc in q y (same_number y ∙ ap kind_number z)
 
 -- ---- what the start of a rule leads to
 

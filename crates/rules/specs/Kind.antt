@@ -1,20 +1,40 @@
 -- What is promised of colors blocks and names of object types.
-use Rattle.std.specs.Prelude.{ℕ, ◌<◌, ◌≤◌, Result, Ok, Err}
+use Rattle.std.specs.Prelude.{ℕ, ◌<◌, ◌≤◌, Option, Some, None, Result, Ok, Err}
 use Rattle.base.specs.Bytes.{Bytes}
 use Rattle.base.specs.declared.refusal.Refusal.{Refusal}
 use Rattle.cursor.specs.declared.Cursor.{Cursor}
+use Rattle.sheet.specs.Sheet.{ObjectType, all, canvas, meta, node, way, area}
 use Rattle.grammar.specs.Reading.{id_to_object_type}
 use Rattle.grammar.specs.Input.{Answer, refused, read, on_option}
 use Rattle.grammar.specs.Reader.{skip_colors}
-use Rattle.keep.specs.Lent.{Lent, type_number}
+use Rattle.keep.specs.Lent.{Lent}
+use Rattle.rules.specs.declared.kind.ObjectKind.{ObjectKind}
+use Rattle.rules.specs.declared.kind.ObjectKind.TheVariants.{All, Canvas, Meta, Node, Way, Area}
 use Rattle.keep.specs.Source.{reading}
 use Rattle.input.specs.Source.{Spot, spot}
 use Rattle.input.specs.Text.{left}
 use Rattle.input.specs.declared.Source.{Source}
 
--- the number of the object type that a name has, and 0 without
-unfoldable pub object_number : Bytes → ℕ
-object_number a = on_option (id_to_object_type a) 0 type_number
+-- the object types as the code has them, and their numbers
+abbrev pub kind_of : ObjectType → ObjectKind
+kind_of all = All
+kind_of canvas = Canvas
+kind_of meta = Meta
+kind_of node = Node
+kind_of way = Way
+kind_of area = Area
+
+abbrev pub kind_number : ObjectKind → ℕ
+kind_number All = 1
+kind_number Canvas = 2
+kind_number Meta = 3
+kind_number Node = 4
+kind_number Way = 5
+kind_number Area = 6
+
+-- the object type that a name has, if any
+unfoldable pub object_kind : Bytes → Option ObjectKind
+object_kind a = on_option (id_to_object_type a) None λ y. Some (kind_of y)
 
 -- ---- colors blocks
 

@@ -26,6 +26,8 @@ use Rattle.rules.specs.declared.Choice.TheVariants.{LastChosen, NextChosen}
 use Rattle.rules.specs.declared.Part.{Part}
 use Rattle.rules.specs.declared.Part.TheVariants.{Closing, Zoom, Bracket, Class, Layer}
 use Rattle.rules.specs.declared.Start.{Start}
+use Rattle.rules.specs.Kind.{kind_number}
+use Rattle.rules.specs.declared.kind.ObjectKind.{ObjectKind}
 use Rattle.rules.specs.declared.Start.TheVariants.{Body, ColorsBlock, Object}
 
 abbrev Ans : Type 0 → Type 0
@@ -135,7 +137,7 @@ pub data Starts (B C : Ans Rule) (O : ObjectType → Ans (Selector × Bool)) (K 
   bad_start : {e e' : Refusal} {τ : Lent} → e ≡ e' → Starts B C O K (Err e) (refused e' τ)
   body : Starts B C O K (Ok Body) B
   colors_block : Starts B C O K (Ok ColorsBlock) C
-  object : (y : ObjectType) {kind : ℕ} → type_number y ≡ kind → Starts B C O K (Ok (Object kind)) (after (O y) K)
+  object : (y : ObjectType) {kind : ObjectKind} → type_number y ≡ kind_number kind → Starts B C O K (Ok (Object kind)) (after (O y) K)
 
 abbrev pub WordStart : Bytes → Range → Place → Result Start Refusal → Type 0
 WordStart bundle a o r =

@@ -1,7 +1,7 @@
 // Colors blocks and names of object types: what is read with no table.
 ghost use Rattle.std.specs.Prelude.{◌≡◌};
 ghost use Rattle.base.specs.Bytes.{ascii, same, within};
-ghost use Rattle.rules.specs.Kind.{object_number, ColorsSkipped};
+ghost use Rattle.rules.specs.Kind.{kind_number, object_kind, ColorsSkipped};
 
 use base::refusal::Refusal;
 use base::{Range, same_bytes};
@@ -10,38 +10,54 @@ use input::Source;
 use input::tokens::read_mandatory_token;
 use token_kind::Token;
 
-// The number of an object type, and 0 for a name that has none.
-pub fn object_type(bundle: &[u8], a: Range) -> u8
-    ensures { result ≡ object_number (within a bundle.now) }
-{
-    type_number(base::part(bundle, a))
+// The object types. docs/TABLES.md has their numbers.
+#[derive(Clone, Copy)]
+pub enum ObjectKind {
+    All = 1,
+    Canvas,
+    Meta,
+    Node,
+    Way,
+    Area,
 }
 
-fn type_number(name: &[u8]) -> u8
-    ensures { result ≡ object_number name.now }
+pub fn kind_number(kind: ObjectKind) -> u8
+    ensures { result ≡ kind_number kind }
+{
+    kind as u8
+}
+
+pub fn object_type(bundle: &[u8], a: Range) -> Option<ObjectKind>
+    ensures { result ≡ object_kind (within a bundle.now) }
+{
+    type_of(base::part(bundle, a))
+}
+
+fn type_of(name: &[u8]) -> Option<ObjectKind>
+    ensures { result ≡ object_kind name.now }
 {
     if same_bytes(name, b"*") {
-        return 1;
+        return Some(ObjectKind::All);
     }
     if same_bytes(name, b"canvas") {
-        return 2;
+        return Some(ObjectKind::Canvas);
     }
     if same_bytes(name, b"meta") {
-        return 3;
+        return Some(ObjectKind::Meta);
     }
     if same_bytes(name, b"node") {
-        return 4;
+        return Some(ObjectKind::Node);
     }
     if same_bytes(name, b"way") {
-        return 5;
+        return Some(ObjectKind::Way);
     }
     if same_bytes(name, b"line") {
-        return 5;
+        return Some(ObjectKind::Way);
     }
     if same_bytes(name, b"area") {
-        return 6;
+        return Some(ObjectKind::Area);
     }
-    0
+    None
 }
 
 pub fn is_colors(bundle: &[u8], a: Range) -> bool

@@ -2,6 +2,7 @@
 #![tactic(auto)]
 
 ghost use Rattle.keep.specs.Lent.{colors_of};
+ghost use Rattle.rules.specs.Kind.{kind_number};
 ghost use Rattle.rules.specs.Rules.{PartRead, AfterColon, AfterColons, SelectorKept, SelectorRead, NextRead, ChoiceRead, StartRead, WordStart, RuleKept, BodyRead, BlockRead, RuleRead};
 
 use base::Range;
@@ -10,7 +11,7 @@ use cursor::Cursor;
 use input::tokens::{read_identifier, read_mandatory_token, refuse, refuse_reached};
 use input::{Place, Source};
 use keep::{Tally, keep_rule, keep_selector};
-use kind::{is_colors, object_type, skip_colors};
+use kind::{ObjectKind, is_colors, kind_number, object_type, skip_colors};
 use properties::read_properties;
 use tests::read_test;
 use token_kind::Token;
@@ -39,7 +40,7 @@ pub enum Choice {
 pub enum Start {
     Body,
     ColorsBlock,
-    Object(u8),
+    Object(ObjectKind),
 }
 
 // The class behind a colon, which is dropped.
@@ -76,7 +77,7 @@ fn read_part(bundle: &[u8], source: Source, c: Cursor) -> Result<Part, Refusal>
 // Stores a selector with the tests that no selector has.
 fn store_selector(
     source: Source,
-    kind: u8,
+    kind: ObjectKind,
     min: Option<u8>,
     max: Option<u8>,
     layer: Option<Range>,
@@ -85,9 +86,9 @@ fn store_selector(
     n: Tally,
     selectors: &mut [u32],
 ) -> Result<(bool, Cursor, Tally), Refusal>
-    ensures { SelectorKept source kind min max layer more c n selectors.old selectors.new result }
+    ensures { SelectorKept source (kind_number kind) min max layer more c n selectors.old selectors.new result }
 {
-    match keep_selector(selectors, n, kind, min, max, layer) {
+    match keep_selector(selectors, n, kind_number(kind), min, max, layer) {
         None => Err(refuse_reached(TABLE_FULL, SELECTORS, source, c)),
         Some(m) => Ok((more, c, m)),
     }
@@ -97,14 +98,14 @@ fn store_selector(
 fn read_selector(
     bundle: &[u8],
     source: Source,
-    kind: u8,
+    kind: ObjectKind,
     c: Cursor,
     n: Tally,
     selectors: &mut [u32],
     tests: &mut [u32],
     numbers: &mut [f64],
 ) -> Result<(bool, Cursor, Tally), Refusal>
-    ensures { SelectorRead bundle.now source kind c n selectors.old tests.old numbers.old selectors.new tests.new numbers.new result }
+    ensures { SelectorRead bundle.now source (kind_number kind) c n selectors.old tests.old numbers.old selectors.new tests.new numbers.new result }
 {
     let mut min = None;
     let mut max = None;
@@ -142,14 +143,14 @@ fn read_selector(
 fn read_choice(
     bundle: &[u8],
     source: Source,
-    kind: u8,
+    kind: ObjectKind,
     c: Cursor,
     n: Tally,
     selectors: &mut [u32],
     tests: &mut [u32],
     numbers: &mut [f64],
 ) -> Result<Choice, Refusal>
-    ensures { ChoiceRead bundle.now source kind c n selectors.old tests.old numbers.old selectors.new tests.new numbers.new result }
+    ensures { ChoiceRead bundle.now source (kind_number kind) c n selectors.old tests.old numbers.old selectors.new tests.new numbers.new result }
 {
     let (more, d, m) = read_selector(bundle, source, kind, c, n, selectors, tests, numbers)?;
     if more {
@@ -173,11 +174,10 @@ fn word_start(bundle: &[u8], a: Range, o: Place) -> Result<Start, Refusal>
     if is_colors(bundle, a) {
         return Ok(Start::ColorsBlock);
     }
-    let kind = object_type(bundle, a);
-    if kind == 0 {
-        return Err(refuse(PARSE, OBJECT_TYPE, o));
+    match object_type(bundle, a) {
+        None => Err(refuse(PARSE, OBJECT_TYPE, o)),
+        Some(kind) => Ok(Start::Object(kind)),
     }
-    Ok(Start::Object(kind))
 }
 
 fn rule_start(bundle: &[u8], t: Token, o: Place) -> Result<Start, Refusal>

@@ -4,7 +4,6 @@ use Rattle.keep.proofs.Laws.{widen}
 use Rattle.keep.specs.Answers.{Reads, refuses}
 use Rattle.rules.specs.Rules.{at_body}
 use Rattle.rules.proofs.RuleLaws.{after_unskipped, after_skipped}
-use borrow.Author.Rules.{rules}
 use Rattle.rules.proofs.read_block.Goals as goal
 use Rattle.base.proofs.Options.{handed_on}
 

@@ -3,7 +3,6 @@ use Rattle.keep.proofs.Laws.{widen}
 use Rattle.keep.specs.Answers.{Reads, refuses}
 use Rattle.rules.specs.Rules.{at_body}
 use Rattle.properties.proofs.ValueLaws.{after_refused, after_done}
-use borrow.Author.Rules.{rules}
 use Rattle.rules.proofs.read_body.Goals as goal
 use Rattle.base.proofs.Options.{handed_on}
 

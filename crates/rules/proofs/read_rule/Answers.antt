@@ -8,7 +8,6 @@ use Rattle.input.specs.Source.{spot}
 use Rattle.keep.specs.Source.{reading}
 use Rattle.keep.specs.Lent.{lent, colors_of}
 use Rattle.grammar.specs.Reader.{read_body, read_block}
-use borrow.Author.Rules.{rules}
 use native.Mathlib.Omega.{arith}
 use mathlib.Core.List.{[], ◌∷◌}
 use mathlib.Core.Path.{refl}

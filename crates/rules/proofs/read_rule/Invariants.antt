@@ -5,7 +5,6 @@ use Rattle.input.specs.Source.{spot}
 use Rattle.keep.specs.Source.{reading}
 use Rattle.keep.specs.Lent.{lent, colors_of}
 use Rattle.grammar.specs.Reader.{read_rule}
-use borrow.Author.Rules.{rules}
 use lib.ListN.{length}
 use mathlib.Core.Path.{◌≡◌}
 use Prim.Native.Nat.{ℕ, suc, ◌<◌}

@@ -1,4 +1,3 @@
-use mathlib.Core.Path.{sym}
 use Rattle.base.specs.Choice.{via}
 use Rattle.keep.proofs.Laws.{yes_way, no_way}
 use Rattle.rules.specs.Rules.{Starts, bad_start, colors_block, object}
@@ -13,10 +12,10 @@ pub returns-then-is_colors : goal.returns-then-is_colors
 unfolding is_colors token_of on_identifier after
 returns-then-is_colors c = λ τ B C O K. yes_way (Starts _ _ _ _ _) _ _ _ (via c.is_colors.ensures c.if-is_colors.true) (colors_block)
 
-pub returns-then-kind-eq0 : goal.returns-then-kind-eq0
+pub returns-in-None : goal.returns-in-None
 unfolding is_colors token_of on_identifier after
-returns-then-kind-eq0 c = λ τ B C O K. no_way (Starts _ _ _ _ _) _ _ _ (via c.is_colors.ensures c.if-is_colors.false) (no_object (Starts _ _ _ _ _) _ _ _ _ (via c.object_type-kind.ensures c.if-kind-eq0.true) (bad_start c.refuse.ensures))
+returns-in-None c = λ τ B C O K. no_way (Starts _ _ _ _ _) _ _ _ (via c.is_colors.ensures c.if-is_colors.false) (no_object (Starts _ _ _ _ _) _ _ _ _ (via c.object_type.ensures c.in-None.is) (bad_start c.refuse.ensures))
 
-pub returns : goal.returns
+pub returns-in-Some : goal.returns-in-Some
 unfolding is_colors token_of on_identifier after
-returns c = λ τ B C O K. no_way (Starts _ _ _ _ _) _ _ _ (via c.is_colors.ensures c.if-is_colors.false) (an_object (Starts _ _ _ _ _) _ _ _ _ (sym c.object_type-kind.ensures) c.if-kind-eq0.false (λ y p. object y p))
+returns-in-Some c = λ τ B C O K. no_way (Starts _ _ _ _ _) _ _ _ (via c.is_colors.ensures c.if-is_colors.false) (an_object (Starts _ _ _ _ _) _ _ _ _ (via c.object_type.ensures c.in-Some.is) (λ y p. object y p))
