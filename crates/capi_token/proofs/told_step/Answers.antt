@@ -1,14 +1,14 @@
 use Rattle.capi_token.specs.Told.{told_step}
 use Rattle.capi_token.proofs.told_step.Goals as goal
 
-pub returns-in-Wrong : goal.returns-in-Wrong
+pub returns-in-Err : goal.returns-in-Err
 unfolding told_step
-returns-in-Wrong c = simp (c.in-Wrong.is, c.words_of.ensures)
+returns-in-Err c = simp (c.in-Err.is, c.words_of.ensures)
 
-pub returns-in-End : goal.returns-in-End
+pub returns-in-Ok-End : goal.returns-in-Ok-End
 unfolding told_step
-returns-in-End c = simp (c.in-End.is, c.words_of-in-End.ensures)
+returns-in-Ok-End c = simp (c.in-Ok-End.is, c.in-Ok-End.field-0-is, c.words_of-in-Ok-End.ensures)
 
-pub returns-in-Took : goal.returns-in-Took
+pub returns-in-Ok-Took : goal.returns-in-Ok-Took
 unfolding told_step
-returns-in-Took c = simp (c.in-Took.is, c.told_token.ensures)
+returns-in-Ok-Took c = simp (c.in-Ok-Took.is, c.in-Ok-Took.field-0-is, c.told_token.ensures)
