@@ -92,7 +92,7 @@ use Rattle.lexical.proofs.CompleteWords.{
 use Rattle.lexical.proofs.CompleteNumbers.{number_taken, plus_taken, minus_taken}
 use Rattle.lexical.proofs.CompleteZoom.{zoom_taken, three_taken, six_taken}
 use Rattle.base.specs.Option.{on_option, on_result}
-use Rattle.std.specs.Prelude.{Option, Some, Result, Ok}
+use Rattle.std.specs.Prelude.{Some, Result, Ok}
 use Rattle.token.specs.declared.Step.{Step}
 use Rattle.token_kind.specs.declared.LexerError.{LexerError}
 
