@@ -6,7 +6,6 @@ use mathlib.Core.List.{[], ◌∷◌}
 use lib.ListN.{length, drop, length-take, length-drop}
 use Rattle.base.specs.Bytes.{Bytes, within}
 use Rattle.base.specs.Choice.{different}
-use Rattle.base.specs.Refusal.{refusal}
 use Rattle.base.specs.declared.Range.{Range}
 use Rattle.color.specs.declared.Color.{Color as Rgb}
 use Rattle.cursor.specs.declared.Cursor.{Cursor}

@@ -1,8 +1,7 @@
 -- A text of the bundle as the grammar's reader sees it: its tokens, with names as ranges of the bundle.
-use Rattle.std.specs.Prelude.{ℕ, ◌+◌, ◌-◌, ◌<◌, ◌≡◌, cond, List, [], ◌∷◌, length, Float, Result, Ok, Err, Option, Some, None}
+use Rattle.std.specs.Prelude.{ℕ, ◌+◌, ◌-◌, ◌<◌, cond, List, [], ◌∷◌, length, Float, Result, Ok, Err, Option, Some, None}
 use Rattle.std.proofs.Math.Option.{Option as Option', none, some}
 use Rattle.base.specs.Bytes.{Bytes, within}
-use Rattle.base.specs.Choice.{pick}
 use Rattle.base.specs.Refusal.{refusal}
 use Rattle.base.specs.declared.Range.{Range}
 use Rattle.base.specs.declared.refusal.Refusal.{Refusal}

@@ -1,9 +1,7 @@
 // Tokens of a text of the bundle, their ranges as places of the bundle.
-ghost use Rattle.std.specs.Prelude.{◌≡◌, ◌+◌, ◌<◌, Bool};
-ghost use Rattle.input.specs.Text.{Fits, shifted, placed, next_of, refusal_at, reached_at, error_at, mandatory_of, token_of, expect_of, word_of, key_of, joined_of, figure_of};
-ghost use Rattle.grammar.specs.Token.{Sign, right_bracket, colon, semi_colon};
-ghost use Rattle.grammar.specs.View.{is_sign};
-ghost use Rattle.token_kind.specs.declared.Token.{Token};
+ghost use Rattle.std.specs.Prelude.{◌≡◌, ◌+◌, ◌<◌};
+ghost use Rattle.input.specs.Text.{Fits, shifted, placed, next_of, refusal_at, reached_at, error_at, mandatory_of, expect_of, word_of, key_of, joined_of, figure_of};
+ghost use Rattle.grammar.specs.Token.{right_bracket, colon, semi_colon};
 
 use crate::{Place, Source};
 use base::Range;
@@ -110,39 +108,34 @@ pub fn read_mandatory_token(
     }
 }
 
-// Behind a sign that must come.
-fn expect<F: Fn(Token) -> bool>(
-    bundle: &[u8],
-    source: Source,
-    c: Cursor,
-    wanted: F,
-) -> Result<Cursor, Refusal>
-    requires { (t : Token) → F.pre wanted t }
-    ensures { (g : Sign) → ((t : Token) (r : Bool) → F.post wanted t r → r ≡ is_sign g (token_of bundle.now t)) → result ≡ expect_of bundle.now g source c }
-{
-    let (t, o, d) = read_mandatory_token(bundle, source, c)?;
-    if wanted(t) {
-        return Ok(d);
-    }
-    Err(refuse(PARSE, ANOTHER_TOKEN, o))
-}
-
 pub fn expect_right_bracket(bundle: &[u8], source: Source, c: Cursor) -> Result<Cursor, Refusal>
     ensures { result ≡ expect_of bundle.now right_bracket source c }
 {
-    expect(bundle, source, c, |t| matches!(t, Token::RightBracket))
+    let (t, o, d) = read_mandatory_token(bundle, source, c)?;
+    match t {
+        Token::RightBracket => Ok(d),
+        _ => Err(refuse(PARSE, ANOTHER_TOKEN, o)),
+    }
 }
 
 pub fn expect_colon(bundle: &[u8], source: Source, c: Cursor) -> Result<Cursor, Refusal>
     ensures { result ≡ expect_of bundle.now colon source c }
 {
-    expect(bundle, source, c, |t| matches!(t, Token::Colon))
+    let (t, o, d) = read_mandatory_token(bundle, source, c)?;
+    match t {
+        Token::Colon => Ok(d),
+        _ => Err(refuse(PARSE, ANOTHER_TOKEN, o)),
+    }
 }
 
 pub fn expect_semicolon(bundle: &[u8], source: Source, c: Cursor) -> Result<Cursor, Refusal>
     ensures { result ≡ expect_of bundle.now semi_colon source c }
 {
-    expect(bundle, source, c, |t| matches!(t, Token::SemiColon))
+    let (t, o, d) = read_mandatory_token(bundle, source, c)?;
+    match t {
+        Token::SemiColon => Ok(d),
+        _ => Err(refuse(PARSE, ANOTHER_TOKEN, o)),
+    }
 }
 
 pub fn read_identifier(bundle: &[u8], source: Source, c: Cursor) -> Result<(Range, Cursor), Refusal>
