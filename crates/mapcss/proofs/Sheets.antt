@@ -37,8 +37,8 @@ use Rattle.input.specs.declared.Place.{Place}
 use Rattle.input.specs.declared.Source.{Source}
 use Rattle.parser.specs.Load.{first_text, sheet_at}
 use Rattle.mapcss.specs.Sheets.{HasTokens, last, then, HasText, ReadsAs}
-use Rattle.std.specs.Prelude.{Option, Some, None}
-use Rattle.base.specs.Option.{on_option, on_option2}
+use Rattle.std.specs.Prelude.{Option, Some, None, Result, Ok, Err}
+use Rattle.base.specs.Option.{on_option, on_option2, on_result}
 
 -- a sheet, whichever way its imports are found
 module _ {Text Text' : Bytes → List Token' → Type 0} (countable : Float → Bool) (f : (n : Bytes) (q : List Token') → Text n q → Text' n q) where

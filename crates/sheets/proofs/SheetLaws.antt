@@ -48,7 +48,7 @@ use Rattle.keep.proofs.Laws.{option_none, option_some, another, beyond}
 use Rattle.properties.proofs.ValueLaws.{after_refused, after_done, lead_stop, lead_on}
 use Rattle.properties.proofs.Turns.{Goes, goes_start, goes_end, goes_on}
 use Rattle.std.specs.Prelude.{Some, None, Result, Ok, Err, Option}
-use Rattle.base.specs.Option.{on_option as on_option', with_option, on_option2}
+use Rattle.base.specs.Option.{on_option as on_option', with_option, on_option2, on_result}
 
 -- ---- storing a colour
 
