@@ -7,7 +7,6 @@ use mathlib.Core.Option.{none, some}
 use lib.Ieee.{Float}
 use Rattle.base.specs.Bytes.{Bytes}
 use Rattle.base.specs.Choice.{different}
-use Rattle.base.specs.Refusal.{refusal}
 use Rattle.base.specs.declared.Range.{Range}
 use Rattle.base.specs.declared.refusal.Refusal.{Refusal}
 use Rattle.bundle.specs.Bundle.{find_of}

@@ -12,7 +12,6 @@ use mir.Val.{has_key}
 use denote.Enum.Declared.{tag_of}
 use Rattle.base.specs.Bytes.{Bytes, within}
 use Rattle.base.specs.Choice.{different}
-use Rattle.base.specs.Refusal.{refusal}
 use Rattle.base.specs.declared.Range.{Range}
 use Rattle.base.specs.declared.refusal.Refusal.{Refusal}
 use Rattle.bundle.specs.Bundle.{find_of}

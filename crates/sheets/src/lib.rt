@@ -8,7 +8,9 @@ use base::Range;
 use base::refusal::{COLORS, NO_SUCH_TEXT, Refusal, TABLE_FULL, TOO_DEEP};
 use bundle::find_text;
 use cursor::Cursor;
-use input::tokens::{expect_colon, expect_semicolon, next, read_mandatory_token, refuse_error, refuse_reached};
+use input::tokens::{
+    expect_colon, expect_semicolon, next, read_mandatory_token, refuse_error, refuse_reached,
+};
 use input::{Place, Source};
 use keep::{Tally, keep_color};
 use rules::read_rule;
