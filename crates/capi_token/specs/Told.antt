@@ -1,10 +1,11 @@
 -- The numbers that stand for a step: crates/capi_token/src/lib.rt has them as a table.
-use Rattle.std.specs.Prelude.{ℕ, ◌≡◌, Bool, true, false, List, [], ◌∷◌, Float, set, Option, Some, None}
+use Rattle.std.specs.Prelude.{ℕ, ◌≡◌, Bool, true, false, List, [], ◌∷◌, Float, set, Option, Some, None, Result, Ok, Err}
 use Rattle.base.specs.Table.{zero_float, stored}
 use Rattle.base.specs.declared.Range.{Range}
 use Rattle.cursor.specs.Cursor.{cursor}
 use Rattle.token.specs.declared.Step.{Step}
-use Rattle.token.specs.declared.Step.TheVariants.{Wrong, End, Took}
+use Rattle.token.specs.declared.Step.TheVariants.{End, Took}
+use Rattle.token_kind.specs.declared.LexerError.{LexerError}
 use Rattle.token_kind.specs.declared.Token.{Token}
 use Rattle.token_kind.specs.declared.Token.TheVariants.{
   Import,
@@ -90,11 +91,11 @@ told_token DoubleColon = plain 25
 told_token SemiColon = plain 26
 told_token Comma = plain 27
 
-unfoldable pub told_step : Step → Told
-told_step (Wrong reason line character) =
-    record { end = cursor 0 0 0 false; line = 0; character = 0; payload = payload 1 reason line character 0 }
-told_step (End c) = record { end = c; line = 0; character = 0; payload = plain 0 }
-told_step (Took t line character c) = record { end = c; line = line; character = character; payload = told_token t }
+unfoldable pub told_step : Result Step LexerError → Told
+told_step (Err e) =
+    record { end = cursor 0 0 0 false; line = 0; character = 0; payload = payload 1 e.reason e.line e.character 0 }
+told_step (Ok (End c)) = record { end = c; line = 0; character = 0; payload = plain 0 }
+told_step (Ok (Took t line character c)) = record { end = c; line = line; character = character; payload = told_token t }
 
 -- the ten words in their order
 abbrev pub words : Told → List ℕ

@@ -35,7 +35,7 @@ ghost use Rattle.capi_token.specs.Told.{Answered, told_step, told_token, ranged,
 use base::{Range, set_float, set_long};
 use cursor::Cursor;
 use token::{Step, next_token};
-use token_kind::Token;
+use token_kind::{LexerError, Token};
 
 // A token's kind, its four words, and its number.
 #[derive(Clone, Copy)]
@@ -82,11 +82,11 @@ pub fn mapcss_next_token(
     payload.kind
 }
 
-fn told_step(step: Step) -> Told
+fn told_step(step: Result<Step, LexerError>) -> Told
     ensures { result ≡ told_step step }
 {
     match step {
-        Step::Wrong(reason, line, character) => Told {
+        Err(e) => Told {
             end: Cursor {
                 at: 0,
                 line: 0,
@@ -95,15 +95,15 @@ fn told_step(step: Step) -> Told
             },
             line: 0,
             character: 0,
-            payload: words_of(1, reason as u64, line as u64, character as u64, 0),
+            payload: words_of(1, e.reason as u64, e.line as u64, e.character as u64, 0),
         },
-        Step::End(end) => Told {
+        Ok(Step::End(end)) => Told {
             end,
             line: 0,
             character: 0,
             payload: words_of(0, 0, 0, 0, 0),
         },
-        Step::Took(token, line, character, end) => Told {
+        Ok(Step::Took(token, line, character, end)) => Told {
             end,
             line,
             character,

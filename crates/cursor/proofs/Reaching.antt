@@ -2,25 +2,25 @@
 use Prim.Native.Nat.{ℕ, zero, suc, ◌-◌, ◌<◌, ◌≤◌}
 use native.Mathlib.Omega.{arith}
 use mathlib.Core.Path.{◌≡◌, refl, sym, ◌∙◌, ap, subst}
+use Rattle.std.specs.Prelude.{Option, Some, None, Result, Ok, Err}
 use lib.Dec.{eqb}
 use lib.ListN.{length}
 use Rattle.base.specs.Bytes.{Bytes}
 use Rattle.base.specs.Choice.{pick, pick_split}
+use Rattle.base.specs.Option.{on_option, on_result, on_result_option}
 use Rattle.base.specs.Turns.{Turn, more, done, after, turns}
 use Rattle.base.proofs.Loops.{Kept, turns_keep}
 use Rattle.space.specs.Space.{is_white_space}
 use Rattle.utf8.specs.Utf8.{char_at}
 use Rattle.cursor.specs.Cursor.{passed, next_char}
-use Rattle.cursor.specs.Elim.{on-Next, on-Comment, on-Significant}
+use Rattle.cursor.specs.Elim.{on-Next, on-Significant}
 use Rattle.cursor.specs.Blank.{line_turn, skip_line_comment, block_turn, skip_block_comment, try_skip_comment, significant_turn, next_significant_char}
 use Rattle.cursor.specs.Reach.{Reach, here, on, over, Within, AtEnd, Begun}
 use Rattle.cursor.specs.declared.Cursor.{Cursor}
 use Rattle.cursor.specs.declared.Next.{Next}
 use Rattle.cursor.specs.declared.Next.TheVariants.{Done, Got}
-use Rattle.cursor.specs.declared.Comment.{Comment}
-use Rattle.cursor.specs.declared.Comment.TheVariants.{OpenComment, NoComment, Skipped}
 use Rattle.cursor.specs.declared.Significant.{Significant}
-use Rattle.cursor.specs.declared.Significant.TheVariants.{Broken, Ended, Found}
+use Rattle.cursor.specs.declared.Significant.TheVariants.{Ended, Found}
 use Rattle.cursor.proofs.Onward.{read, read_within, next_on, missed}
 
 -- what holds in each case holds of the answer
@@ -35,26 +35,26 @@ module _ {B : Type 0} (P : B → Type 0) where
   split-Next (Got k d) f g p q = q k d refl
 
   pub split-Comment :
-      (x : Comment) (f : Cursor → B) (a : B) (g : Cursor → B)
-      → ((d : Cursor) → x ≡ OpenComment d → P (f d))
-      → (x ≡ NoComment → P a)
-      → ((d : Cursor) → x ≡ Skipped d → P (g d))
-      → P (on-Comment x f a g)
-  unfolding on-Comment
-  split-Comment (OpenComment d) f a g p q r = p d refl
-  split-Comment NoComment f a g p q r = q refl
-  split-Comment (Skipped d) f a g p q r = r d refl
+      (x : Result (Option Cursor) Cursor) (f : Cursor → B) (a : B) (g : Cursor → B)
+      → ((d : Cursor) → x ≡ Err d → P (f d))
+      → (x ≡ Ok None → P a)
+      → ((d : Cursor) → x ≡ Ok (Some d) → P (g d))
+      → P (on_result_option x f a g)
+  unfolding on_option on_result
+  split-Comment (Err d) f a g p q r = p d refl
+  split-Comment (Ok None) f a g p q r = q refl
+  split-Comment (Ok (Some d)) f a g p q r = r d refl
 
   pub split-Significant :
-      (x : Significant) (f g : Cursor → B) (h : ℕ → ℕ → Cursor → B)
-      → ((d : Cursor) → x ≡ Broken d → P (f d))
-      → ((d : Cursor) → x ≡ Ended d → P (g d))
-      → ((at k : ℕ) (d : Cursor) → x ≡ Found at k d → P (h at k d))
-      → P (on-Significant x f g h)
-  unfolding on-Significant
-  split-Significant (Broken d) f g h p q r = p d refl
-  split-Significant (Ended d) f g h p q r = q d refl
-  split-Significant (Found at k d) f g h p q r = r at k d refl
+      (x : Result Significant Cursor) (f g : Cursor → B) (h : ℕ → ℕ → Cursor → B)
+      → ((d : Cursor) → x ≡ Err d → P (f d))
+      → ((d : Cursor) → x ≡ Ok (Ended d) → P (g d))
+      → ((at k : ℕ) (d : Cursor) → x ≡ Ok (Found at k d) → P (h at k d))
+      → P (on_result x f (λ y. on-Significant y g h))
+  unfolding on_result on-Significant
+  split-Significant (Err d) f g h p q r = p d refl
+  split-Significant (Ok (Ended d)) f g h p q r = q d refl
+  split-Significant (Ok (Found at k d)) f g h p q r = r at k d refl
 
 -- the end stays where it is
 pub end_stays : (s : Bytes) (d e : Cursor) → next_char s d ≡ Done e → e.at ≡ d.at
@@ -110,59 +110,6 @@ pub line_reach : (s : Bytes) (c : Cursor) → Within 1 s c (skip_line_comment s 
 unfolding skip_line_comment
 line_reach s c = turns_keep (Reach s c 0) (Within 1 s c) (line_turn s) c (within_0 here) (line_turn_lem s c) (suc (length s)) c here
 
-abbrev pub CommentReach : Bytes → Cursor → Comment → Type 0
-CommentReach s c (OpenComment d) = Reach s c 1 d
-CommentReach s c NoComment = Unit {0}
-CommentReach s c (Skipped d) = Within 1 s c d
-
-block_turn_lem : (s : Bytes) (c d : Cursor) → Reach s c 0 d → Kept (Reach s c 0) (CommentReach s c) (block_turn s d)
-block_turn_lem s c d r =
-    let P = Kept (Reach s c 0) (CommentReach s c) in
-    split-Next P (next_char s d) _ _ (λ e q. over r q) λ k e q.
-    pick_split P (eqb k 42) _ _
-    (λ t.
-    split-Next P (next_char s e) _ _ (λ f m. on r q) λ j f m.
-    pick_split P (eqb j 47) _ _ (λ u. within_0 (on (on r q) m)) (λ u. on r q))
-    (λ t. on r q)
-
-block_reach : (s : Bytes) (c : Cursor) → CommentReach s c (skip_block_comment s c)
-unfolding skip_block_comment
-block_reach s c = turns_keep (Reach s c 0) (CommentReach s c) (block_turn s) NoComment tt (block_turn_lem s c) (suc (length s)) c here
-
-comment_more : (s : Bytes) (c d : Cursor) → Reach s c 0 d → (x : Comment) → CommentReach s d x → CommentReach s c x
-comment_more s c d r (OpenComment e) h = reach_more r h
-comment_more s c d r NoComment h = tt
-comment_more s c d r (Skipped e) h = within_more r h
-
-pub comment_reach : (s : Bytes) (c : Cursor) → CommentReach s c (try_skip_comment s c)
-unfolding try_skip_comment
-comment_reach s c =
-    split-Next (CommentReach s c) (next_char s c) _ _ (λ d q. tt) λ k d q.
-    pick_split (CommentReach s c) (eqb k 47) _ _ (λ t. within_more (reach_one q) (line_reach s d)) λ t.
-    pick_split (CommentReach s c) (eqb k 42) _ _ (λ u. comment_more s c d (reach_one q) (skip_block_comment s d) (block_reach s d)) (λ u. tt)
-
-module _ (s : Bytes) (c d : Cursor) (r : Comment) (e : r ≡ try_skip_comment s c) (m : r ≡ Skipped d) where
-  pub skipped_reach : Within 1 s c d
-  skipped_reach = subst (CommentReach s c) (sym e ∙ m) (comment_reach s c)
-
--- a comment ends behind the slash before it
-pub skipped_on :
-    (s : Bytes) (b c d : Cursor) (k : ℕ) (n : Next) (r : Comment)
-    → n ≡ next_char s b
-    → n ≡ Got k c
-    → r ≡ try_skip_comment s c
-    → r ≡ Skipped d
-    → length s - d.at < length s - b.at
-skipped_on s b c d k n r p q e m =
-    let l = read_within s b c k (read s b c k (sym p ∙ q)) in
-    let h = reach_on (skipped_reach s c d r e m).reach in
-    omega arith
-
-abbrev pub SignificantReach : Bytes → Cursor → Significant → Type 0
-SignificantReach s c (Broken d) = Reach s c 1 d
-SignificantReach s c (Ended d) = AtEnd s c d
-SignificantReach s c (Found at k d) = Begun s c at k d
-
 -- what turns keep, of a loop that ends before its number of turns: each turn falls
 abbrev pub Falls : {S R : Type 0} → (S → Type 0) → (R → Type 0) → (S → ℕ) → ℕ → Turn S R → Type 0
 Falls P Q μ left (more x) = P x × (μ x < left)
@@ -184,6 +131,73 @@ module _
     turns_fall zero x l p = absurd (omega arith)
     turns_fall (suc n) x l p = falls_after (μ x) (turns f d n) (λ y q m. turns_fall n y (omega arith) q) (f x) (turn x p)
 
+abbrev BlockReach : Bytes → Cursor → Result Cursor Cursor → Type 0
+BlockReach s c (Err d) = Reach s c 1 d
+BlockReach s c (Ok d) = Within 1 s c d
+
+block_turn_lem :
+    (s : Bytes) (c d : Cursor)
+    → Reach s c 0 d
+    → Falls (Reach s c 0) (BlockReach s c) (λ x. length s - x.at) (length s - d.at) (block_turn s d)
+block_turn_lem s c d r =
+    let P : Turn Cursor (Result Cursor Cursor) → Type 0 = Falls (Reach s c 0) (BlockReach s c) (λ x. length s - x.at) (length s - d.at) in
+    split-Next P (next_char s d) _ _ (λ e q. over r q) λ k e q.
+    let on_one : P (more e) = (on r q, next_on s d e k (Got k e) (sym q) refl) in
+    pick_split P (eqb k 42) _ _
+    (λ t.
+    split-Next P (next_char s e) _ _ (λ f m. on_one) λ j f m.
+    pick_split P (eqb j 47) _ _ (λ u. within_0 (on (on r q) m)) (λ u. on_one))
+    (λ t. on_one)
+
+block_reach : (s : Bytes) (c : Cursor) → BlockReach s c (skip_block_comment s c)
+unfolding skip_block_comment
+block_reach s c =
+    turns_fall (Reach s c 0) (BlockReach s c) (λ x. length s - x.at) (block_turn s) (Err c) (block_turn_lem s c) (suc (length s)) c
+    (omega arith) here
+
+abbrev pub CommentReach : Bytes → Cursor → Result (Option Cursor) Cursor → Type 0
+CommentReach s c (Err d) = Reach s c 1 d
+CommentReach s c (Ok None) = Unit {0}
+CommentReach s c (Ok (Some d)) = Within 1 s c d
+
+block_more :
+    (s : Bytes) (c d : Cursor)
+    → Reach s c 0 d
+    → (x : Result Cursor Cursor) → BlockReach s d x
+    → CommentReach s c (on_result x Err λ e. Ok (Some e))
+unfolding on_result
+block_more s c d r (Err e) h = reach_more r h
+block_more s c d r (Ok e) h = within_more r h
+
+pub comment_reach : (s : Bytes) (c : Cursor) → CommentReach s c (try_skip_comment s c)
+unfolding try_skip_comment
+comment_reach s c =
+    split-Next (CommentReach s c) (next_char s c) _ _ (λ d q. tt) λ k d q.
+    pick_split (CommentReach s c) (eqb k 47) _ _ (λ t. within_more (reach_one q) (line_reach s d)) λ t.
+    pick_split (CommentReach s c) (eqb k 42) _ _ (λ u. block_more s c d (reach_one q) (skip_block_comment s d) (block_reach s d)) (λ u. tt)
+
+module _ (s : Bytes) (c d : Cursor) (r : Result (Option Cursor) Cursor) (e : r ≡ try_skip_comment s c) (m : r ≡ Ok (Some d)) where
+  pub skipped_reach : Within 1 s c d
+  skipped_reach = subst (CommentReach s c) (sym e ∙ m) (comment_reach s c)
+
+-- a comment ends behind the slash before it
+pub skipped_on :
+    (s : Bytes) (b c d : Cursor) (k : ℕ) (n : Next) (r : Result (Option Cursor) Cursor)
+    → n ≡ next_char s b
+    → n ≡ Got k c
+    → r ≡ try_skip_comment s c
+    → r ≡ Ok (Some d)
+    → length s - d.at < length s - b.at
+skipped_on s b c d k n r p q e m =
+    let l = read_within s b c k (read s b c k (sym p ∙ q)) in
+    let h = reach_on (skipped_reach s c d r e m).reach in
+    omega arith
+
+abbrev pub SignificantReach : Bytes → Cursor → Result Significant Cursor → Type 0
+SignificantReach s c (Err d) = Reach s c 1 d
+SignificantReach s c (Ok (Ended d)) = AtEnd s c d
+SignificantReach s c (Ok (Found at k d)) = Begun s c at k d
+
 -- the end is read once where the text ends, and before that once more by a comment that runs into it
 significant_turn_lem :
     (s : Bytes) (c d : Cursor)
@@ -194,7 +208,7 @@ significant_turn_lem s c d w =
     (λ e q. record { ends = w.ends; few = w.few; reach = over w.reach q })
     (λ k e q. go w.ends w.reach k e q)
   where
-    P : Turn Cursor Significant → Type 0
+    P : Turn Cursor (Result Significant Cursor) → Type 0
     P = Falls (Within 1 s c) (SignificantReach s c) (λ x. length s - x.at) (length s - d.at)
 
     go :
@@ -204,8 +218,8 @@ significant_turn_lem s c d w =
         → next_char s d ≡ Got k e
         → P (pick (is_white_space k) (more e)
         (pick (eqb k 47)
-        (on-Comment (try_skip_comment s e) (λ f. done (Broken f)) (done (Found d.at k e)) more)
-        (done (Found d.at k e))))
+        (on_result_option (try_skip_comment s e) (λ f. done (Err f)) (done (Ok (Found d.at k e))) more)
+        (done (Ok (Found d.at k e)))))
     go zero r k e q =
         let b : Begun s c d.at k e = record { place = d; reach = r; is = refl; char = q } in
         pick_split P (is_white_space k) _ _ (λ t. (within_0 (on r q), next_on s d e k (Got k e) (sym q) refl)) λ t.
@@ -216,7 +230,7 @@ significant_turn_lem s c d w =
         (λ m. b)
         (λ f m. (
           within_more (on r q) (subst (CommentReach s e) m (comment_reach s e)),
-          skipped_on s d e f k (Got k e) (Skipped f) (sym q) refl (sym m) refl,
+          skipped_on s d e f k (Got k e) (Ok (Some f)) (sym q) refl (sym m) refl,
         )))
         (λ u. b)
     go (suc n) r k e q = absurd (end_last r k e q)
@@ -224,5 +238,5 @@ significant_turn_lem s c d w =
 pub significant_reach : (s : Bytes) (c : Cursor) → SignificantReach s c (next_significant_char s c)
 unfolding next_significant_char
 significant_reach s c =
-    turns_fall (Within 1 s c) (SignificantReach s c) (λ x. length s - x.at) (significant_turn s) (Ended c)
+    turns_fall (Within 1 s c) (SignificantReach s c) (λ x. length s - x.at) (significant_turn s) (Ok (Ended c))
     (significant_turn_lem s c) (suc (length s)) c (omega arith) (within_0 here)

@@ -1,13 +1,11 @@
 -- Eliminators of the enums of cursor, with their laws.
 use Rattle.std.specs.Prelude.{◌≡◌, ℕ}
 use Rattle.std.proofs.Common.{sym, ap, ◌∙◌}
-use Rattle.cursor.specs.declared.Comment.{Comment}
 use Rattle.cursor.specs.declared.Cursor.{Cursor}
 use Rattle.cursor.specs.declared.Next.{Next}
 use Rattle.cursor.specs.declared.Significant.{Significant}
 use Rattle.cursor.specs.declared.Next.TheVariants.{Done, Got}
-use Rattle.cursor.specs.declared.Comment.TheVariants.{OpenComment, NoComment, Skipped}
-use Rattle.cursor.specs.declared.Significant.TheVariants.{Broken, Ended, Found}
+use Rattle.cursor.specs.declared.Significant.TheVariants.{Ended, Found}
 
 unfoldable pub on-Next : {B : Type 0} → Next → (Cursor → B) → (ℕ → Cursor → B) → B
 on-Next (Done x0) k0 k1 = k0 x0
@@ -21,36 +19,14 @@ pub Next-Got : {B : Type 0} (x : Next) (k0 : Cursor → B) (k1 : ℕ → Cursor 
 unfolding on-Next
 Next-Got x k0 k1 e h = h ∙ sym (ap (λ x. on-Next x k0 k1) e)
 
-unfoldable pub on-Comment : {B : Type 0} → Comment → (Cursor → B) → B → (Cursor → B) → B
-on-Comment (OpenComment x0) k0 k1 k2 = k0 x0
-on-Comment NoComment k0 k1 k2 = k1
-on-Comment (Skipped x0) k0 k1 k2 = k2 x0
+unfoldable pub on-Significant : {B : Type 0} → Significant → (Cursor → B) → (ℕ → ℕ → Cursor → B) → B
+on-Significant (Ended x0) k0 k1 = k0 x0
+on-Significant (Found x0 x1 x2) k0 k1 = k1 x0 x1 x2
 
-pub Comment-OpenComment : {B : Type 0} (x : Comment) (k0 : Cursor → B) (k1 : B) (k2 : Cursor → B) {x0 : Cursor} {y : B} → x ≡ OpenComment x0 → y ≡ k0 x0 → y ≡ on-Comment x k0 k1 k2
-unfolding on-Comment
-Comment-OpenComment x k0 k1 k2 e h = h ∙ sym (ap (λ x. on-Comment x k0 k1 k2) e)
-
-pub Comment-NoComment : {B : Type 0} (x : Comment) (k0 : Cursor → B) (k1 : B) (k2 : Cursor → B) {y : B} → x ≡ NoComment → y ≡ k1 → y ≡ on-Comment x k0 k1 k2
-unfolding on-Comment
-Comment-NoComment x k0 k1 k2 e h = h ∙ sym (ap (λ x. on-Comment x k0 k1 k2) e)
-
-pub Comment-Skipped : {B : Type 0} (x : Comment) (k0 : Cursor → B) (k1 : B) (k2 : Cursor → B) {x0 : Cursor} {y : B} → x ≡ Skipped x0 → y ≡ k2 x0 → y ≡ on-Comment x k0 k1 k2
-unfolding on-Comment
-Comment-Skipped x k0 k1 k2 e h = h ∙ sym (ap (λ x. on-Comment x k0 k1 k2) e)
-
-unfoldable pub on-Significant : {B : Type 0} → Significant → (Cursor → B) → (Cursor → B) → (ℕ → ℕ → Cursor → B) → B
-on-Significant (Broken x0) k0 k1 k2 = k0 x0
-on-Significant (Ended x0) k0 k1 k2 = k1 x0
-on-Significant (Found x0 x1 x2) k0 k1 k2 = k2 x0 x1 x2
-
-pub Significant-Broken : {B : Type 0} (x : Significant) (k0 : Cursor → B) (k1 : Cursor → B) (k2 : ℕ → ℕ → Cursor → B) {x0 : Cursor} {y : B} → x ≡ Broken x0 → y ≡ k0 x0 → y ≡ on-Significant x k0 k1 k2
+pub Significant-Ended : {B : Type 0} (x : Significant) (k0 : Cursor → B) (k1 : ℕ → ℕ → Cursor → B) {x0 : Cursor} {y : B} → x ≡ Ended x0 → y ≡ k0 x0 → y ≡ on-Significant x k0 k1
 unfolding on-Significant
-Significant-Broken x k0 k1 k2 e h = h ∙ sym (ap (λ x. on-Significant x k0 k1 k2) e)
+Significant-Ended x k0 k1 e h = h ∙ sym (ap (λ x. on-Significant x k0 k1) e)
 
-pub Significant-Ended : {B : Type 0} (x : Significant) (k0 : Cursor → B) (k1 : Cursor → B) (k2 : ℕ → ℕ → Cursor → B) {x0 : Cursor} {y : B} → x ≡ Ended x0 → y ≡ k1 x0 → y ≡ on-Significant x k0 k1 k2
+pub Significant-Found : {B : Type 0} (x : Significant) (k0 : Cursor → B) (k1 : ℕ → ℕ → Cursor → B) {x0 : ℕ} {x1 : ℕ} {x2 : Cursor} {y : B} → x ≡ Found x0 x1 x2 → y ≡ k1 x0 x1 x2 → y ≡ on-Significant x k0 k1
 unfolding on-Significant
-Significant-Ended x k0 k1 k2 e h = h ∙ sym (ap (λ x. on-Significant x k0 k1 k2) e)
-
-pub Significant-Found : {B : Type 0} (x : Significant) (k0 : Cursor → B) (k1 : Cursor → B) (k2 : ℕ → ℕ → Cursor → B) {x0 : ℕ} {x1 : ℕ} {x2 : Cursor} {y : B} → x ≡ Found x0 x1 x2 → y ≡ k2 x0 x1 x2 → y ≡ on-Significant x k0 k1 k2
-unfolding on-Significant
-Significant-Found x k0 k1 k2 e h = h ∙ sym (ap (λ x. on-Significant x k0 k1 k2) e)
+Significant-Found x k0 k1 e h = h ∙ sym (ap (λ x. on-Significant x k0 k1) e)

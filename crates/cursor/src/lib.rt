@@ -29,18 +29,9 @@ pub enum Next {
     Got(u32, Cursor),
 }
 
-// A comment that does not end, no comment, or the place behind one.
-#[derive(Clone, Copy)]
-pub enum Comment {
-    OpenComment(Cursor),
-    NoComment,
-    Skipped(Cursor),
-}
-
-// An open comment, the end, or a character that is no blank: its place, itself, the place behind it.
+// The end, or a character that is no blank: its place, itself, the place behind it.
 #[derive(Clone, Copy)]
 pub enum Significant {
-    Broken(Cursor),
     Ended(Cursor),
     Found(usize, u32, Cursor),
 }

@@ -6,15 +6,17 @@ use mathlib.Core.List.{[], ◌∷◌}
 use lib.ListN.{length, drop, length-take, length-drop}
 use Rattle.base.specs.Bytes.{Bytes, within}
 use Rattle.base.specs.Choice.{different}
-use Rattle.base.specs.Refusal.{refusal}
 use Rattle.base.specs.declared.Range.{Range}
 use Rattle.color.specs.declared.Color.{Color as Rgb}
 use Rattle.cursor.specs.declared.Cursor.{Cursor}
 use Rattle.token_laws.specs.Claims.{Between, Inside}
-use Rattle.token.specs.Elim.{on-Step}
+use Rattle.token.specs.Elim.{on-Step, on_step}
+use Rattle.token_kind.specs.declared.LexerError.{LexerError}
+use Rattle.std.specs.Prelude.{Result, Ok, Err}
+use Rattle.base.specs.Option.{on_result}
 use Rattle.token.specs.Step.{step_of}
 use Rattle.token.specs.declared.Step.{Step}
-use Rattle.token.specs.declared.Step.TheVariants.{Wrong, End, Took}
+use Rattle.token.specs.declared.Step.TheVariants.{End, Took}
 use Rattle.token_kind.specs.declared.Token.{Token}
 use Rattle.token_kind.specs.declared.Token.TheVariants.{Color}
 use Rattle.token_laws.proofs.Consuming.{steps_consume}
@@ -22,7 +24,7 @@ use Rattle.token_laws.proofs.Shades.{colors_small}
 use Rattle.grammar.specs.Alike.{NamesGenuine, ColorsSmall, TokensGenuine}
 use Rattle.grammar.specs.Input.{broken, end, token, Store}
 use Rattle.grammar.specs.Token.{Name as Name', Token as Token', import, identifier, string, color_ref, number, zoom_range, color, sign}
-use Rattle.input.specs.Text.{Small, shifted, placed, text_of, next_of, token_of, name_in, range_of, place}
+use Rattle.input.specs.Text.{Small, shifted, placed, text_of, next_of, token_of, name_in, range_of, place, error_at}
 use Rattle.input.specs.Source.{Spot, spot, next_at, input_of}
 use Rattle.input.specs.declared.Place.{Place}
 use Rattle.input.specs.declared.Source.{Source}
@@ -81,27 +83,27 @@ module _ (bundle : Bytes) where
       (s : Source) (c : Cursor) (q : Spot) (t : Token') (o : Place)
       → next_at bundle s c ≡ token t o q
       → Holds t
-  unfolding next_at next_of on-Step
+  unfolding next_at next_of on-Step on_result
   next_holds s c q t o e = go (step_of (text_of bundle s) c) refl e
     where
       go :
-          (x : Step)
+          (x : Result Step LexerError)
           → step_of (text_of bundle s) c ≡ x
-          → on-Step (on-Step x Wrong End (λ t line character d. Took (placed s.range.from t) line character d))
-          (λ reason line character. broken (refusal 3 reason s.number line character))
+          → on_step (on_step x Err (λ d. Ok (End d)) (λ t line character d. Ok (Took (placed s.range.from t) line character d)))
+          (λ e. broken (error_at s e))
           (λ d. end (spot s d))
           (λ t line character d. token (token_of bundle t) (place s.number line character) (spot s d))
           ≡ token t o q
           → Holds t
-      go (Wrong r l k) h e = different cc
-      go (End f) h e = different cc
-      go (Took u l k f) h e =
+      go (Err r) h e = different cc
+      go (Ok (End f)) h e = different cc
+      go (Ok (Took u l k f)) h e =
           let p : token_of bundle (placed s.range.from u) ≡ t = cc in
           let w = steps_consume (text_of bundle s) c f u l k h in
           let y = w.moves in
           subst Holds p
           (token_holds s.range.from w.place f.at u w.inside
-          (λ x q. colors_small (text_of bundle s) c f x l k (subst (λ u. step_of (text_of bundle s) c ≡ Took u l k f) q h))
+          (λ x q. colors_small (text_of bundle s) c f x l k (subst (λ u. step_of (text_of bundle s) c ≡ Ok (Took u l k f)) q h))
           (in_bundle s f.at (omega arith) w.in_text))
 
   module _ {T : Type 0} (st : Store T) where

@@ -9,6 +9,9 @@ use Rattle.cursor.specs.declared.Cursor.{Cursor}
 use Rattle.token_laws.proofs.Consuming.{steps_consume}
 use Rattle.token_laws.specs.Claims.{Between}
 use Rattle.token.specs.Step.{step_of}
+use Rattle.std.specs.Prelude.{Result, Ok}
+use Rattle.token_kind.specs.declared.LexerError.{LexerError}
+use Rattle.token.specs.declared.Step.{Step}
 use Rattle.token.specs.declared.Step.TheVariants.{Took}
 use Rattle.token_kind.specs.declared.Token.{Token}
 use Rattle.input.specs.Text.{Fits}
@@ -27,7 +30,7 @@ both_fit from a b r w h =
 pub next_fits :
     (bundle : Bytes) (r : Range) (c d : Cursor) (t : Token) (line character : ℕ)
     → length bundle < 0x1_0000_0000_0000_0000
-    → step_of (within r bundle) c ≡ Took t line character d
+    → step_of (within r bundle) c ≡ Ok (Took t line character d)
     → Fits r.from t
 next_fits bundle r c d t line character h e =
     let w = steps_consume (within r bundle) c d t line character e in
@@ -39,5 +42,5 @@ next_fits bundle r c d t line character h e =
     length_within : length (within r bundle) ≤ length bundle - r.from
     length_within = simp (length-take, length-drop) (omega arith)
 
-pub took_same : (line character : ℕ) (d : Cursor) {t u : Token} → t ≡ u → Took t line character d ≡ Took u line character d
-took_same line character d e = ap (λ t. Took t line character d) e
+pub took_same : (line character : ℕ) (d : Cursor) {t u : Token} → t ≡ u → ◌≡◌ {A = Result Step LexerError} (Ok (Took t line character d)) (Ok (Took u line character d))
+took_same line character d e = ap (λ t. Ok (Took t line character d)) e

@@ -6,13 +6,13 @@ use mathlib.Core.Bool.{Bool, true, false, cond}
 use lib.Ieee.{Float}
 use Rattle.base.specs.Bytes.{Bytes}
 use Rattle.base.specs.Choice.{different}
-use Rattle.base.specs.Refusal.{refusal}
 use Rattle.base.specs.declared.Range.{Range}
 use Rattle.base.specs.declared.refusal.Refusal.{Refusal}
 use Rattle.cursor.specs.declared.Cursor.{Cursor}
-use Rattle.token.specs.Elim.{on-Step}
+use Rattle.token.specs.Elim.{on-Step, on_step}
+use Rattle.token_kind.specs.declared.LexerError.{LexerError}
 use Rattle.token.specs.declared.Step.{Step}
-use Rattle.token.specs.declared.Step.TheVariants.{Wrong, End, Took}
+use Rattle.token.specs.declared.Step.TheVariants.{End, Took}
 use Rattle.token_kind.specs.declared.Token.{Token}
 use Rattle.grammar.specs.Token.{Name, joined, Sign, Token as Token', import, identifier, string, color_ref, number, zoom_range, color, sign, colon}
 use Rattle.grammar.specs.View.{is_sign, on_identifier, on_number}
@@ -22,7 +22,7 @@ use Rattle.grammar.specs.Reader.{read_mandatory_token, unexpected_token, expect_
 use Rattle.table.specs.declared.Name.{Name as Key'}
 use Rattle.table.specs.declared.Name.TheVariants.{Plain, Joined}
 use Rattle.input.specs.Source.{Spot, spot, next_at, input_of}
-use Rattle.input.specs.Text.{next_of, name_in, name_of, range_of, token_of, place, refusal_at, reached_at, left, mandatory_of, expect_of, word_of, figure_of, joined_of, key_of}
+use Rattle.input.specs.Text.{next_of, name_in, name_of, range_of, token_of, place, refusal_at, reached_at, error_at, left, mandatory_of, expect_of, word_of, figure_of, joined_of, key_of}
 use Rattle.input.specs.declared.Place.{Place}
 use Rattle.input.specs.declared.Source.{Source}
 use Rattle.input.proofs.Fuel.{mandatory_moves}
@@ -40,25 +40,25 @@ module _ (bundle : Bytes) {T : Type 0} (st : Store T) {A : Type 0} (s : Source) 
   mandatory_is c τ k = go (next_of bundle s c)
     where
       go :
-          (x : Step)
+          (x : Result Step LexerError)
           → on_next
-          (on-Step x
-          (λ reason line character. broken (refusal 3 reason s.number line character))
+          (on_step x
+          (λ e. broken (error_at s e))
           (λ d. end (spot s d))
           (λ t line character d. token (token_of bundle t) (place s.number line character) (spot s d)))
           (λ r. refused r τ)
           (λ d. refused (refusal_at 4 1 (reached_at d.source d.cursor)) τ)
           k
           ≡ on_result3
-          (on-Step x
-          (λ reason line character. Err (refusal 3 reason s.number line character))
+          (on_step x
+          (λ e. Err (error_at s e))
           (λ d. Err (refusal_at 4 1 (reached_at s d)))
           (λ t line character d. Ok (t, place s.number line character, d)))
           (λ e. refused e τ)
           (λ t o d. k (token_of bundle t) o (spot s d))
-      go (Wrong r l n) = refl
-      go (End d) = refl
-      go (Took t l n d) = refl
+      go (Err e) = refl
+      go (Ok (End d)) = refl
+      go (Ok (Took t l n d)) = refl
 
   pub expect_is :
       (g : Sign) (c : Cursor) (τ : T) (k : Spot → Answer A Spot T Refusal)

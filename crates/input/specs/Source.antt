@@ -2,16 +2,15 @@
 use Rattle.std.specs.Prelude.{ℕ, suc}
 use Rattle.std.proofs.Math.Option.{none, some}
 use Rattle.base.specs.Bytes.{Bytes}
-use Rattle.base.specs.Refusal.{refusal}
 use Rattle.base.specs.declared.Range.{Range}
 use Rattle.base.specs.declared.refusal.Refusal.{Refusal}
 use Rattle.bundle.specs.Bundle.{find_of}
 use Rattle.cursor.specs.Cursor.{start}
 use Rattle.cursor.specs.declared.Cursor.{Cursor}
-use Rattle.token.specs.Elim.{on-Step}
+use Rattle.token.specs.Elim.{on_step}
 use Rattle.sheet.specs.Digits.{is_whole}
 use Rattle.grammar.specs.Input.{Next, broken, end, token, Store, Input, number_of}
-use Rattle.input.specs.Text.{next_of, token_of, place, reached_at, refusal_at, left}
+use Rattle.input.specs.Text.{next_of, token_of, place, reached_at, refusal_at, error_at, left}
 use Rattle.input.specs.declared.Place.{Place}
 use Rattle.input.specs.declared.Source.{Source}
 use Rattle.base.specs.Option.{on_option2}
@@ -30,8 +29,8 @@ source k r = record { number = k; range = r }
 module _ (bundle : Bytes) where
   unfoldable pub next_at : Source → Cursor → Next Spot Place Refusal
   next_at s c =
-      on-Step (next_of bundle s c)
-      (λ reason line character. broken (refusal 3 reason s.number line character))
+      on_step (next_of bundle s c)
+      (λ e. broken (error_at s e))
       (λ d. end (spot s d))
       λ t line character d. token (token_of bundle t) (place s.number line character) (spot s d)
 

@@ -1,18 +1,18 @@
 -- A text of the bundle as the grammar's reader sees it: its tokens, with names as ranges of the bundle.
-use Rattle.std.specs.Prelude.{ℕ, ◌+◌, ◌-◌, ◌<◌, ◌≡◌, cond, List, [], ◌∷◌, length, Float, Result, Ok, Err, Option, Some, None}
+use Rattle.std.specs.Prelude.{ℕ, ◌+◌, ◌-◌, ◌<◌, cond, List, [], ◌∷◌, length, Float, Result, Ok, Err, Option, Some, None}
 use Rattle.std.proofs.Math.Option.{Option as Option', none, some}
 use Rattle.base.specs.Bytes.{Bytes, within}
-use Rattle.base.specs.Choice.{pick}
 use Rattle.base.specs.Refusal.{refusal}
 use Rattle.base.specs.declared.Range.{Range}
 use Rattle.base.specs.declared.refusal.Refusal.{Refusal}
 use Rattle.color.specs.declared.Color.{Color as Rgb}
 use Rattle.cursor.specs.declared.Cursor.{Cursor}
 use Rattle.token_laws.specs.Claims.{Inside}
-use Rattle.token.specs.Elim.{on-Step}
+use Rattle.token.specs.Elim.{on_step}
+use Rattle.token_kind.specs.declared.LexerError.{LexerError}
 use Rattle.token.specs.Step.{step_of}
 use Rattle.token.specs.declared.Step.{Step}
-use Rattle.token.specs.declared.Step.TheVariants.{Wrong, End, Took}
+use Rattle.token.specs.declared.Step.TheVariants.{End, Took}
 use Rattle.token_kind.specs.declared.Token.{Token}
 use Rattle.token_kind.specs.declared.Token.TheVariants.{
   Import,
@@ -91,8 +91,10 @@ unfoldable pub text_of : Bytes → Source → Bytes
 text_of bundle s = within s.range bundle
 
 -- the next token of a text, its ranges as places of the bundle
-unfoldable pub next_of : Bytes → Source → Cursor → Step
-next_of bundle s c = on-Step (step_of (text_of bundle s) c) Wrong End λ t line character d. Took (placed s.range.from t) line character d
+unfoldable pub next_of : Bytes → Source → Cursor → Result Step LexerError
+next_of bundle s c =
+    on_step (step_of (text_of bundle s) c) Err (λ d. Ok (End d)) λ t line character d.
+    Ok (Took (placed s.range.from t) line character d)
 
 -- ---- as the grammar has them
 
@@ -159,6 +161,10 @@ reached_at s c = place s.number c.line c.character
 abbrev pub refusal_at : ℕ → ℕ → Place → Refusal
 refusal_at n reason o = refusal n reason o.text o.line o.character
 
+-- a refusal of an error of the tokenizer
+abbrev pub error_at : Source → LexerError → Refusal
+error_at s e = refusal 3 e.reason s.number e.line e.character
+
 -- how many bytes of a text are left
 unfoldable pub left : Bytes → Source → Cursor → ℕ
 left bundle s c = length (text_of bundle s) - c.at
@@ -167,8 +173,7 @@ left bundle s c = length (text_of bundle s) - c.at
 
 unfoldable pub mandatory_of : Bytes → Source → Cursor → Result (Token × Place × Cursor) Refusal
 mandatory_of bundle s c =
-    on-Step (next_of bundle s c)
-    (λ reason line character. Err (refusal 3 reason s.number line character))
+    on_step (next_of bundle s c) (λ e. Err (error_at s e))
     (λ d. Err (refusal_at 4 1 (reached_at s d)))
     λ t line character d. Ok (t, place s.number line character, d)
 

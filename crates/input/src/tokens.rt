@@ -1,6 +1,6 @@
 // Tokens of a text of the bundle, their ranges as places of the bundle.
 ghost use Rattle.std.specs.Prelude.{◌≡◌, ◌+◌, ◌<◌};
-ghost use Rattle.input.specs.Text.{Fits, shifted, placed, next_of, refusal_at, reached_at, mandatory_of, expect_of, word_of, key_of, joined_of, figure_of};
+ghost use Rattle.input.specs.Text.{Fits, shifted, placed, next_of, refusal_at, reached_at, error_at, mandatory_of, expect_of, word_of, key_of, joined_of, figure_of};
 ghost use Rattle.grammar.specs.Token.{right_bracket, colon, semi_colon};
 
 use crate::{Place, Source};
@@ -9,18 +9,17 @@ use base::refusal::{ANOTHER_TOKEN, END_OF_FILE, LEXER, PARSE, Refusal, UNEXPECTE
 use cursor::Cursor;
 use table::Name;
 use token::{Step, next_token};
-use token_kind::Token;
+use token_kind::{LexerError, Token};
 
 // The next token, or what stands in its place.
-pub fn next(bundle: &[u8], source: Source, c: Cursor) -> Step
+pub fn next(bundle: &[u8], source: Source, c: Cursor) -> Result<Step, LexerError>
     ensures { result ≡ next_of bundle.now source c }
 {
     let range = source.range;
     let from = range.from;
-    match next_token(base::part(bundle, range), c) {
-        Step::Wrong(reason, line, character) => Step::Wrong(reason, line, character),
-        Step::End(d) => Step::End(d),
-        Step::Took(t, line, character, d) => Step::Took(placed(t, from), line, character, d),
+    match next_token(base::part(bundle, range), c)? {
+        Step::End(d) => Ok(Step::End(d)),
+        Step::Took(t, line, character, d) => Ok(Step::Took(placed(t, from), line, character, d)),
     }
 }
 
@@ -74,6 +73,19 @@ pub fn refuse_reached(number: usize, reason: usize, source: Source, c: Cursor) -
     }
 }
 
+// A refusal of an error of the tokenizer.
+pub fn refuse_error(source: Source, e: LexerError) -> Refusal
+    ensures { result ≡ error_at source e }
+{
+    Refusal {
+        number: LEXER,
+        reason: e.reason,
+        text: source.number,
+        line: e.line,
+        character: e.character,
+    }
+}
+
 pub fn read_mandatory_token(
     bundle: &[u8],
     source: Source,
@@ -82,15 +94,9 @@ pub fn read_mandatory_token(
     ensures { result ≡ mandatory_of bundle.now source c }
 {
     match next(bundle, source, c) {
-        Step::Wrong(reason, line, character) => Err(Refusal {
-            number: LEXER,
-            reason,
-            text: source.number,
-            line,
-            character,
-        }),
-        Step::End(d) => Err(refuse_reached(PARSE, END_OF_FILE, source, d)),
-        Step::Took(t, line, character, d) => Ok((
+        Err(e) => Err(refuse_error(source, e)),
+        Ok(Step::End(d)) => Err(refuse_reached(PARSE, END_OF_FILE, source, d)),
+        Ok(Step::Took(t, line, character, d)) => Ok((
             t,
             Place {
                 text: source.number,

@@ -14,7 +14,7 @@ use Rattle.space.specs.Space.{among, is_white_space}
 use Rattle.utf8.specs.Utf8.{char_at}
 use Rattle.utf8.specs.declared.Char.TheVariants.{Code}
 use Rattle.cursor.specs.Cursor.{cursor, passed, next_char}
-use Rattle.cursor.specs.Elim.{on-Next, on-Comment, on-Significant}
+use Rattle.cursor.specs.Elim.{on-Next, on-Significant}
 use Rattle.cursor.specs.Blank.{
   line_turn,
   skip_line_comment,
@@ -25,8 +25,6 @@ use Rattle.cursor.specs.Blank.{
   next_significant_char,
 }
 use Rattle.cursor.specs.declared.Cursor.{Cursor}
-use Rattle.cursor.specs.declared.Comment.{Comment}
-use Rattle.cursor.specs.declared.Comment.TheVariants.{Skipped}
 use Rattle.cursor.specs.declared.Next.{Next}
 use Rattle.cursor.specs.declared.Next.TheVariants.{Done, Got}
 use Rattle.cursor.specs.declared.Significant.{Significant}
@@ -93,7 +91,10 @@ use Rattle.lexical.proofs.CompleteWords.{
 }
 use Rattle.lexical.proofs.CompleteNumbers.{number_taken, plus_taken, minus_taken}
 use Rattle.lexical.proofs.CompleteZoom.{zoom_taken, three_taken, six_taken}
-use Rattle.base.specs.Option.{on_result}
+use Rattle.base.specs.Option.{on_option, on_result}
+use Rattle.std.specs.Prelude.{Some, Result, Ok}
+use Rattle.token.specs.declared.Step.{Step}
+use Rattle.token_kind.specs.declared.LexerError.{LexerError}
 
 nil_cons : {k : ℕ} {ks : Chars} → [] ≡ k ∷ ks → ⊥
 nil_cons q = let z : ◌≡◌ {A = ℕ} 0 1 = cc in omega arith
@@ -131,11 +132,11 @@ module _ (s : Bytes) where
   last_turns x (suc n) (step p w) (one e r) q l = rw (p, e) (last_turns x n w r q (omega arith))
 
   block_turns :
-      (x : Comment) (n : ℕ) {c d : Cursor} {xs : Chars}
+      (x : Result Cursor Cursor) (n : ℕ) {c d : Cursor} {xs : Chars}
       → Walk s c xs d
       → IsBlock xs
       → length xs < n
-      → turns (block_turn s) x n c ≡ Skipped d
+      → turns (block_turn s) x n c ≡ Ok d
   unfolding turns on-Next pick
   block_turns x zero w r l = absurd (omega arith)
   block_turns x (suc n) (step p (step q here)) close l = rw (p, q)
@@ -149,7 +150,7 @@ module _ (s : Bytes) where
       → Walk s c xs d
       → Run is_newline false xs
       → next_char s d ≡ Got 10 e
-      → try_skip_comment s b ≡ Skipped e
+      → try_skip_comment s b ≡ Ok (Some e)
   unfolding try_skip_comment skip_line_comment on-Next pick
   line_comment b {xs = xs} p w r q = let l = walk_short xs w in rw (p, line_turns _ (suc (length s)) w r q (omega arith))
 
@@ -159,7 +160,7 @@ module _ (s : Bytes) where
       → Walk s c xs d
       → Run is_newline false xs
       → next_char s d ≡ Done e
-      → try_skip_comment s b ≡ Skipped e
+      → try_skip_comment s b ≡ Ok (Some e)
   unfolding try_skip_comment skip_line_comment on-Next pick
   last_comment b {xs = xs} p w r q = let l = walk_short xs w in rw (p, last_turns _ (suc (length s)) w r q (omega arith))
 
@@ -168,13 +169,13 @@ module _ (s : Bytes) where
       → next_char s b ≡ Got 42 c
       → Walk s c xs d
       → IsBlock xs
-      → try_skip_comment s b ≡ Skipped d
-  unfolding try_skip_comment skip_block_comment on-Next pick
+      → try_skip_comment s b ≡ Ok (Some d)
+  unfolding try_skip_comment skip_block_comment on-Next on_result pick
   block_comment b {xs = xs} p w r = let l = walk_short xs w in rw (p, block_turns _ (suc (length s)) w r (omega arith))
 
   -- blanks, and what stands behind them
   turn_space :
-      (x : Significant) (n : ℕ) (c : Cursor) {d : Cursor} {k : ℕ}
+      (x : Result Significant Cursor) (n : ℕ) (c : Cursor) {d : Cursor} {k : ℕ}
       → next_char s c ≡ Got k d
       → is_white_space k ≡ true
       → turns (significant_turn s) x (suc n) c ≡ turns (significant_turn s) x n d
@@ -182,22 +183,22 @@ module _ (s : Bytes) where
   turn_space x n c q e = rw (q, e)
 
   turn_comment :
-      (x : Significant) (n : ℕ) (c d : Cursor) {e : Cursor}
+      (x : Result Significant Cursor) (n : ℕ) (c d : Cursor) {e : Cursor}
       → next_char s c ≡ Got 47 d
-      → try_skip_comment s d ≡ Skipped e
+      → try_skip_comment s d ≡ Ok (Some e)
       → turns (significant_turn s) x (suc n) c ≡ turns (significant_turn s) x n e
-  unfolding turns on-Next on-Comment pick is_white_space among
+  unfolding turns on-Next on_option on_result pick is_white_space among
   turn_comment x n c d q e = rw (q, e)
 
   found :
-      (x : Significant) (n : ℕ) {c p d : Cursor} {k : ℕ} {ks rest : Chars}
+      (x : Result Significant Cursor) (n : ℕ) {c p d : Cursor} {k : ℕ} {ks rest : Chars}
       → IsBlank ks (k ∷ rest)
       → Walk s c ks p
       → next_char s p ≡ Got k d
       → is_white_space k ≡ false
       → eqb k 47 ≡ false
       → length ks < n
-      → turns (significant_turn s) x n c ≡ Found p.at k d
+      → turns (significant_turn s) x n c ≡ Ok (Found p.at k d)
   unfolding turns on-Next pick
   found x zero b w q f g l = absurd (omega arith)
   found x (suc n) nothing here q f g l = rw (q, f, g)
@@ -224,12 +225,12 @@ module _ (s : Bytes) where
           absurd (h.quiet k r.width (subst (λ (x : Cursor). char_at s x.at ≡ Code k r.width) h.behind r.char))
 
   ended :
-      (x : Significant) (n : ℕ) {c p e : Cursor} {ks : Chars}
+      (x : Result Significant Cursor) (n : ℕ) {c p e : Cursor} {ks : Chars}
       → IsBlank ks []
       → Walk s c ks p
       → next_char s p ≡ Done e
       → length ks < n
-      → (d : Cursor) × (turns (significant_turn s) x n c ≡ Ended d)
+      → (d : Cursor) × (turns (significant_turn s) x n c ≡ Ok (Ended d))
   unfolding turns on-Next pick
   ended x zero b w q l = absurd (omega arith)
   ended x (suc n) {e = e} nothing here q l = (e, rw q)
@@ -275,11 +276,11 @@ module _ (s : Bytes) where
           record { last = r.last; over = r.over; walked = step q' r.walked; ends = r.ends }
 
 pub complete_end : CompleteEnd
-unfolding step_of next_significant_char on-Significant
+unfolding step_of next_significant_char on-Significant on_result
 complete_end s c b =
     let a = all s (characters_at s c.at) c refl in
     let l = walk_short (characters_at s c.at) a.walked in
-    let r = ended s (Ended c) (suc (length s)) b a.walked a.ends (omega arith) in
+    let r = ended s (Ok (Ended c)) (suc (length s)) b a.walked a.ends (omega arith) in
     (r.0, rw r.1)
 
 module _ (s : Bytes) where
@@ -311,12 +312,12 @@ module _ (s : Bytes) where
       → IsBlank ks (characters_at s p.at)
       → Walk s c ks p
       → (x : Taken s p t e)
-      → step_of s c ≡ Took t x.behind.line x.behind.character e
+      → step_of s c ≡ Ok (Took t x.behind.line x.behind.character e)
   unfolding step_of next_significant_char on-Significant on_result
   step_taken {c} {p} {ks = ks} b w x =
       let l = walk_short ks w in
       let b' = subst (IsBlank ks) (characters_got s p x.behind x.got) b in
-      rw (found s (Ended c) (suc (length s)) b' w x.got x.no_space x.no_slash (omega arith), x.ready)
+      rw (found s (Ok (Ended c)) (suc (length s)) b' w x.got x.no_space x.no_slash (omega arith), x.ready)
 
   -- the cursors of a token that is there
   lexed_taken :
@@ -328,7 +329,7 @@ module _ (s : Bytes) where
       → g.at ≡ x.end
       → Walk s g x.after e
       → e.at ≡ to
-      → (line : ℕ) × ((character : ℕ) × ((d : Cursor) × ((step_of s c ≡ Took t line character d) × (d.at ≡ to))))
+      → (line : ℕ) × ((character : ℕ) × ((d : Cursor) × ((step_of s c ≡ Ok (Took t line character d)) × (d.at ≡ to))))
   lexed_taken {p = p} {f = f} {g = g} {e = e} {t = t} {to = to} x w v i u j z k =
       let y = taken (subst (λ n. IsToken x.before x.name x.after (characters_at s n) x.word) (sym k) x.is_token) v u z in
       let r : characters_at s p.at ≡ x.before ++ (x.name ++ (x.after ++ characters_at s to)) =
@@ -353,7 +354,7 @@ one_token s at t u to to' l m =
     let y = complete s c u to' m in
     let d = x.1.1.0 in
     let f = y.1.1.0 in
-    let e : Took t x.0 x.1.0 d ≡ Took u y.0 y.1.0 f = sym x.1.1.1.0 ∙ y.1.1.1.0 in
+    let e : ◌≡◌ {A = Result Step LexerError} (Ok (Took t x.0 x.1.0 d)) (Ok (Took u y.0 y.1.0 f)) = sym x.1.1.1.0 ∙ y.1.1.1.0 in
     let p : t ≡ u = cc in
     let q : d ≡ f = cc in
     (p, sym x.1.1.1.1 ∙ ap (λ (c : Cursor). c.at) q ∙ y.1.1.1.1)

@@ -15,18 +15,17 @@ use Rattle.space.specs.Space.{is_white_space}
 use Rattle.cursor.specs.Blank.{line_turn, skip_line_comment, block_turn, skip_block_comment, try_skip_comment, significant_turn, next_significant_char}
 use Rattle.cursor.specs.Class.{in_span, can_start_identifier, can_continue_identifier}
 use Rattle.cursor.specs.Cursor.{next_char}
-use Rattle.cursor.specs.declared.Comment.{Comment}
-use Rattle.cursor.specs.declared.Comment.TheVariants.{OpenComment, NoComment, Skipped}
 use Rattle.cursor.specs.declared.Cursor.{Cursor}
 use Rattle.cursor.specs.declared.Next.TheVariants.{Done, Got}
 use Rattle.cursor.specs.declared.Significant.{Significant}
-use Rattle.cursor.specs.declared.Significant.TheVariants.{Broken, Ended, Found}
+use Rattle.cursor.specs.declared.Significant.TheVariants.{Ended, Found}
 use Rattle.cursor.proofs.Reaching.{split-Next, split-Comment, split-Significant, end_stays, skipped_on}
 use Rattle.token.specs.Read.{range, read_after_minus, read_other, starts_number, read_long, read_single, read_pair, read_token}
 use Rattle.token_kind.specs.Signs.{get_two_char_simple_token, get_one_char_simple_token}
 use Rattle.token.specs.Step.{step_of}
 use Rattle.token.specs.declared.Step.{Step}
-use Rattle.token.specs.declared.Step.TheVariants.{Wrong, End, Took}
+use Rattle.token_kind.specs.declared.LexerError.{LexerError}
+use Rattle.token.specs.declared.Step.TheVariants.{End, Took}
 use Rattle.token_kind.specs.declared.Token.{Token}
 use Rattle.token_kind.specs.declared.Token.TheVariants.{Identifier}
 use Rattle.lexical.specs.Lexical.{
@@ -82,8 +81,8 @@ use Rattle.lexical.proofs.SoundWords.{
 }
 use Rattle.lexical.proofs.SoundZoom.{bare, reads_zoom, reads_color}
 use Rattle.lexical.proofs.SoundNumbers.{reads_number, reads_minus}
-use Rattle.std.specs.Prelude.{Option, Some, None, Ok}
-use Rattle.base.specs.Option.{on_option}
+use Rattle.std.specs.Prelude.{Option, Some, None, Result, Ok, Err}
+use Rattle.base.specs.Option.{on_option, on_result}
 
 -- ---- what is read, place by place
 
@@ -129,15 +128,13 @@ record Blocked (s : Bytes) (c e : Cursor) : Type 0 where
   pub walk : Walk s c chars e
   pub is : IsBlock chars
 
-abbrev Block : Bytes → Cursor → Comment → Type 0
-Block s c (OpenComment e) = Unit {0}
-Block s c NoComment = Unit {0}
-Block s c (Skipped e) = Blocked s c e
+abbrev Block : Bytes → Cursor → Result Cursor Cursor → Type 0
+Block s c (Err e) = Unit {0}
+Block s c (Ok e) = Blocked s c e
 
-block_inner : (s : Bytes) (c d : Cursor) (k : ℕ) → next_char s c ≡ Got k d → eqb k 42 ≡ false → (x : Comment) → Block s d x → Block s c x
-block_inner s c d k q t (OpenComment e) h = tt
-block_inner s c d k q t NoComment h = tt
-block_inner s c d k q t (Skipped e) h = record { chars = k ∷ h.chars; walk = step q h.walk; is = inner t h.is }
+block_inner : (s : Bytes) (c d : Cursor) (k : ℕ) → next_char s c ≡ Got k d → eqb k 42 ≡ false → (x : Result Cursor Cursor) → Block s d x → Block s c x
+block_inner s c d k q t (Err e) h = tt
+block_inner s c d k q t (Ok e) h = record { chars = k ∷ h.chars; walk = step q h.walk; is = inner t h.is }
 
 block_long : IsBlock [] → ⊥
 block_long = elim [ ]
@@ -147,21 +144,19 @@ block_star :
     → next_char s c ≡ Got 42 d
     → next_char s d ≡ Got j f
     → eqb j 47 ≡ false
-    → (x : Comment) → Block s d x
+    → (x : Result Cursor Cursor) → Block s d x
     → Block s c x
-block_star s c d f j q m u (OpenComment e) h = tt
-block_star s c d f j q m u NoComment h = tt
-block_star s c d f j q m u (Skipped e) h = go h.chars h.walk h.is
+block_star s c d f j q m u (Err e) h = tt
+block_star s c d f j q m u (Ok e) h = go h.chars h.walk h.is
   where
     go : (ks : Chars) → Walk s d ks e → IsBlock ks → Blocked s c e
     go [] w b = absurd (block_long b)
     go (k ∷ ks) (step p w) b =
         record { chars = 42 ∷ k ∷ ks; walk = step q (step p w); is = star (ap (λ n. eqb n 47) (got_same p m).0 ∙ u) b }
 
-block_open : (s : Bytes) (c d f : Cursor) → next_char s d ≡ Done f → (x : Comment) → Block s d x → Block s c x
-block_open s c d f m (OpenComment e) h = tt
-block_open s c d f m NoComment h = tt
-block_open s c d f m (Skipped e) h = go h.chars h.walk h.is
+block_open : (s : Bytes) (c d f : Cursor) → next_char s d ≡ Done f → (x : Result Cursor Cursor) → Block s d x → Block s c x
+block_open s c d f m (Err e) h = tt
+block_open s c d f m (Ok e) h = go h.chars h.walk h.is
   where
     go : (ks : Chars) → Walk s d ks e → IsBlock ks → Blocked s c e
     go [] w b = absurd (block_long b)
@@ -169,7 +164,7 @@ block_open s c d f m (Skipped e) h = go h.chars h.walk h.is
 
 block_turn_lem : (s : Bytes) (c : Cursor) → Goes (Block s) (left s) c (block_turn s c)
 block_turn_lem s c =
-    let P : Turn Cursor Comment → Type 0 = Goes (Block s) (left s) c in
+    let P : Turn Cursor (Result Cursor Cursor) → Type 0 = Goes (Block s) (left s) c in
     split-Next P (next_char s c) _ _ (λ d q. tt) λ k d q.
     pick_split P (eqb k 42) _ _
     (λ t.
@@ -181,7 +176,7 @@ block_turn_lem s c =
 
 blocked : (s : Bytes) (c : Cursor) → Block s c (skip_block_comment s c)
 unfolding skip_block_comment
-blocked s c = turns_go (Block s) (left s) (block_turn s) NoComment (block_turn_lem s) (suc (length s)) c (omega arith)
+blocked s c = turns_go (Block s) (left s) (block_turn s) (Err c) (block_turn_lem s) (suc (length s)) c (omega arith)
 
 -- ---- blanks
 
@@ -237,20 +232,20 @@ block_skips s c d e f q m h =
       before = λ ks rest g b. block h.is b;
     }
 
-abbrev CommentSkips : Bytes → Cursor → Comment → Type 0
-CommentSkips s c (OpenComment e) = Unit {0}
-CommentSkips s c NoComment = Unit {0}
-CommentSkips s c (Skipped e) = Skipping s c e
+abbrev CommentSkips : Bytes → Cursor → Result (Option Cursor) Cursor → Type 0
+CommentSkips s c (Err e) = Unit {0}
+CommentSkips s c (Ok None) = Unit {0}
+CommentSkips s c (Ok (Some e)) = Skipping s c e
 
 blocked_skips :
     (s : Bytes) (c d e : Cursor)
     → next_char s c ≡ Got 47 d
     → next_char s d ≡ Got 42 e
-    → (x : Comment) → Block s e x
-    → CommentSkips s c x
-blocked_skips s c d e q m (OpenComment f) h = tt
-blocked_skips s c d e q m NoComment h = tt
-blocked_skips s c d e q m (Skipped f) h = block_skips s c d e f q m h
+    → (x : Result Cursor Cursor) → Block s e x
+    → CommentSkips s c (on_result x Err λ f. Ok (Some f))
+unfolding on_result
+blocked_skips s c d e q m (Err f) h = tt
+blocked_skips s c d e q m (Ok f) h = block_skips s c d e f q m h
 
 comment_skips : (s : Bytes) (c d : Cursor) → next_char s c ≡ Got 47 d → CommentSkips s c (try_skip_comment s d)
 unfolding try_skip_comment
@@ -270,17 +265,17 @@ record Begun (s : Bytes) (c : Cursor) (at k : ℕ) (d : Cursor) : Type 0 where
   pub is : at ≡ place.at
   pub char : next_char s place ≡ Got k d
 
-abbrev Blanks : Bytes → Cursor → Significant → Type 0
-Blanks s c (Broken d) = Unit {0}
-Blanks s c (Ended d) = IsBlank (characters_at s c.at) []
-Blanks s c (Found at k d) = Begun s c at k d
+abbrev Blanks : Bytes → Cursor → Result Significant Cursor → Type 0
+Blanks s c (Err d) = Unit {0}
+Blanks s c (Ok (Ended d)) = IsBlank (characters_at s c.at) []
+Blanks s c (Ok (Found at k d)) = Begun s c at k d
 
-blanks_before : (s : Bytes) (c e : Cursor) → Skipping s c e → (x : Significant) → Blanks s e x → Blanks s c x
-blanks_before s c e h (Broken d) b = tt
-blanks_before s c e h (Ended d) b =
+blanks_before : (s : Bytes) (c e : Cursor) → Skipping s c e → (x : Result Significant Cursor) → Blanks s e x → Blanks s c x
+blanks_before s c e h (Err d) b = tt
+blanks_before s c e h (Ok (Ended d)) b =
     subst (λ ks. IsBlank ks []) (sym (reads_characters s c h.reads))
     (h.before (characters_at s e.at) [] (sym (append-nil (characters_at s e.at))) b)
-blanks_before s c e h (Found at k d) b =
+blanks_before s c e h (Ok (Found at k d)) b =
     record {
       blanks = h.chars ++ b.blanks;
       place = b.place;
@@ -292,21 +287,21 @@ blanks_before s c e h (Found at k d) b =
 
 significant_turn_lem : (s : Bytes) (c : Cursor) → Goes (Blanks s) (left s) c (significant_turn s c)
 significant_turn_lem s c =
-    let P : Turn Cursor Significant → Type 0 = Goes (Blanks s) (left s) c in
+    let P : Turn Cursor (Result Significant Cursor) → Type 0 = Goes (Blanks s) (left s) c in
     split-Next P (next_char s c) _ _ (λ d q. subst (λ ks. IsBlank ks []) (sym (characters_done s c d q)) nothing) λ k d q.
     let b : Begun s c c.at k d = record { blanks = []; place = c; skipped = nothing; is_blank = nothing; is = refl; char = q } in
     pick_split P (is_white_space k) _ _ (λ t. (left_falls s c d k q, blanks_before s c d (space_skips s c d k q t))) λ t.
     pick_split P (eqb k 47) _ _
     (λ u.
     split-Comment P (try_skip_comment s d) _ _ _ (λ e m. tt) (λ m. b) λ e m. (
-      skipped_on s c d e k (Got k d) (Skipped e) (sym q) refl (sym m) refl,
+      skipped_on s c d e k (Got k d) (Ok (Some e)) (sym q) refl (sym m) refl,
       blanks_before s c e (subst (CommentSkips s c) m (comment_skips s c d (got_as 47 q u))),
     ))
     (λ u. b)
 
 blanks_skipped : (s : Bytes) (c : Cursor) → Blanks s c (next_significant_char s c)
 unfolding next_significant_char
-blanks_skipped s c = turns_go (Blanks s) (left s) (significant_turn s) (Ended c) (significant_turn_lem s) (suc (length s)) c (omega arith)
+blanks_skipped s c = turns_go (Blanks s) (left s) (significant_turn s) (Ok (Ended c)) (significant_turn_lem s) (suc (length s)) c (omega arith)
 
 -- ---- tokens
 
@@ -382,10 +377,10 @@ reads_token s b c k q =
 
 -- ---- steps
 
-abbrev Steps : Bytes → Cursor → Step → Type 0
-Steps s c (Wrong reason l n) = Unit {0}
-Steps s c (End d) = IsBlank (characters_at s c.at) []
-Steps s c (Took t l n d) = Lexed s c.at t d.at
+abbrev Steps : Bytes → Cursor → Result Step LexerError → Type 0
+Steps s c (Err e) = Unit {0}
+Steps s c (Ok (End d)) = IsBlank (characters_at s c.at) []
+Steps s c (Ok (Took t l n d)) = Lexed s c.at t d.at
 
 -- blanks and then a token
 lexed :

@@ -1,5 +1,5 @@
 -- The tokens that stand in the bytes of a text by the lexical grammar, and what a step of the tokenizer has to do with them.
-use Rattle.std.specs.Prelude.{ℕ, zero, suc, ◌+◌, ◌≡◌, [], ◌∷◌, ◌++◌, length}
+use Rattle.std.specs.Prelude.{ℕ, zero, suc, ◌+◌, ◌≡◌, [], ◌∷◌, ◌++◌, length, Ok}
 use Rattle.base.specs.Bytes.{Bytes}
 use Rattle.base.specs.declared.Range.{Range}
 use Rattle.utf8.specs.Elim.{on-Char}
@@ -47,14 +47,14 @@ pub record Lexed (s : Bytes) (at : ℕ) (t : Token) (to : ℕ) : Type 0 where
 abbrev pub Sound : Type 0
 Sound =
     (s : Bytes) (c d : Cursor) (t : Token) (line character : ℕ)
-    → step_of s c ≡ Took t line character d
+    → step_of s c ≡ Ok (Took t line character d)
     → Lexed s c.at t d.at
 
 abbrev pub Complete : Type 0
 Complete =
     (s : Bytes) (c : Cursor) (t : Token) (to : ℕ)
     → Lexed s c.at t to
-    → (line : ℕ) × ((character : ℕ) × ((d : Cursor) × ((step_of s c ≡ Took t line character d) × (d.at ≡ to))))
+    → (line : ℕ) × ((character : ℕ) × ((d : Cursor) × ((step_of s c ≡ Ok (Took t line character d)) × (d.at ≡ to))))
 
 -- .. so at each place there is one at most ..
 abbrev pub OneToken : Type 0
@@ -66,7 +66,7 @@ OneToken =
 
 -- .. and the end exactly where only blanks are left.
 abbrev pub SoundEnd : Type 0
-SoundEnd = (s : Bytes) (c d : Cursor) → step_of s c ≡ End d → IsBlank (characters_at s c.at) []
+SoundEnd = (s : Bytes) (c d : Cursor) → step_of s c ≡ Ok (End d) → IsBlank (characters_at s c.at) []
 
 abbrev pub CompleteEnd : Type 0
-CompleteEnd = (s : Bytes) (c : Cursor) → IsBlank (characters_at s c.at) [] → (d : Cursor) × (step_of s c ≡ End d)
+CompleteEnd = (s : Bytes) (c : Cursor) → IsBlank (characters_at s c.at) [] → (d : Cursor) × (step_of s c ≡ Ok (End d))

@@ -11,9 +11,10 @@ use Rattle.base.specs.declared.refusal.Refusal.{Refusal}
 use Rattle.bundle.specs.Bundle.{is_bundle, check_of}
 use Rattle.cursor.specs.declared.Cursor.{Cursor}
 use Rattle.sheet.specs.Sheet.{TextTest, NumericTest}
-use Rattle.token.specs.Elim.{on-Step}
+use Rattle.token.specs.Elim.{on-Step, on_step}
+use Rattle.token_kind.specs.declared.LexerError.{LexerError}
 use Rattle.token.specs.declared.Step.{Step}
-use Rattle.token.specs.declared.Step.TheVariants.{Wrong, End, Took}
+use Rattle.token.specs.declared.Step.TheVariants.{End, Took}
 use Rattle.token_kind.specs.declared.Token.{Token as Token'}
 use Rattle.grammar.specs.Accepted.{load_into}
 use Rattle.grammar.specs.Capacity.{Tables, empty, limited}
@@ -281,20 +282,20 @@ abbrev Listed : Refusal → Type 0
 Listed e = OneOf load_numbers e.number
 
 step_split :
-    {B : Type 0} (F : B → Type 0) (x : Step) (f : ℕ → ℕ → ℕ → B) (g : Cursor → B) (h : Token' → ℕ → ℕ → Cursor → B)
-    → ((a b c : ℕ) → F (f a b c))
+    {B : Type 0} (F : B → Type 0) (x : Result Step LexerError) (f : LexerError → B) (g : Cursor → B) (h : Token' → ℕ → ℕ → Cursor → B)
+    → ((e : LexerError) → F (f e))
     → ((d : Cursor) → F (g d))
     → ((t : Token') (a b : ℕ) (d : Cursor) → F (h t a b d))
-    → F (on-Step x f g h)
-unfolding on-Step
-step_split F (Wrong a b c) f g h p q r = p a b c
-step_split F (End d) f g h p q r = q d
-step_split F (Took t a b d) f g h p q r = r t a b d
+    → F (on_step x f g h)
+unfolding on-Step on_result
+step_split F (Err e) f g h p q r = p e
+step_split F (Ok (End d)) f g h p q r = q d
+step_split F (Ok (Took t a b d)) f g h p q r = r t a b d
 
 next_listed_lem : (bundle : Bytes) (s : Source) (c : Cursor) → NextFair Listed (next_at bundle s c)
 unfolding next_at
 next_listed_lem bundle s c =
-    step_split (NextFair Listed) (next_of bundle s c) _ _ _ (λ a b c. later (later first)) (λ d. tt) (λ t a b d. tt)
+    step_split (NextFair Listed) (next_of bundle s c) _ _ _ (λ e. later (later first)) (λ d. tt) (λ t a b d. tt)
 
 reason_listed : (r : Reason) → OneOf load_numbers (number_of r).0
 reason_listed end_of_file = later (later (later first))

@@ -7,16 +7,16 @@ use mathlib.Core.Option.{none, some}
 use lib.Ieee.{Float}
 use Rattle.base.specs.Bytes.{Bytes}
 use Rattle.base.specs.Choice.{different}
-use Rattle.base.specs.Refusal.{refusal}
 use Rattle.base.specs.declared.Range.{Range}
 use Rattle.base.specs.declared.refusal.Refusal.{Refusal}
 use Rattle.bundle.specs.Bundle.{find_of}
 use Rattle.cursor.specs.Cursor.{start}
 use Rattle.cursor.specs.declared.Cursor.{Cursor}
-use Rattle.token.specs.Elim.{on-Step}
+use Rattle.token.specs.Elim.{on-Step, on_step}
+use Rattle.token_kind.specs.declared.LexerError.{LexerError}
 use Rattle.token.specs.Step.{step_of}
 use Rattle.token.specs.declared.Step.{Step}
-use Rattle.token.specs.declared.Step.TheVariants.{Wrong, End, Took}
+use Rattle.token.specs.declared.Step.TheVariants.{End, Took}
 use Rattle.token_kind.specs.declared.Token.{Token}
 use Rattle.lexical.specs.Lexical.{IsBlank}
 use Rattle.lexical.specs.Lexed.{characters_at, Lexed}
@@ -31,13 +31,13 @@ use Rattle.grammar.specs.Stream.{Gives, here, ◌▸◌, WholeTo, Whole, TextOf}
 use Rattle.grammar.specs.Token.{Token as Token'}
 use Rattle.input.specs.Source.{Spot, spot, source, next_at}
 use Rattle.keep.specs.Source.{reading}
-use Rattle.input.specs.Text.{placed, text_of, next_of, token_of, place}
+use Rattle.input.specs.Text.{placed, text_of, next_of, token_of, place, error_at}
 use Rattle.input.specs.declared.Place.{Place}
 use Rattle.input.specs.declared.Source.{Source}
 use Rattle.parser.specs.Load.{first_text, sheet_at}
 use Rattle.mapcss.specs.Sheets.{HasTokens, last, then, HasText, ReadsAs}
-use Rattle.std.specs.Prelude.{Option, Some, None}
-use Rattle.base.specs.Option.{on_option, on_option2}
+use Rattle.std.specs.Prelude.{Option, Some, None, Result, Ok, Err}
+use Rattle.base.specs.Option.{on_option, on_option2, on_result}
 
 -- a sheet, whichever way its imports are found
 module _ {Text Text' : Bytes → List Token' → Type 0} (countable : Float → Bool) (f : (n : Bytes) (q : List Token') → Text n q → Text' n q) where
@@ -50,10 +50,10 @@ module _ {Text Text' : Bytes → List Token' → Type 0} (countable : Float → 
 
 module _ (bundle : Bytes) where
   -- what the reader sees of a step
-  abbrev seen : Source → Step → Next Spot Place Refusal
+  abbrev seen : Source → Result Step LexerError → Next Spot Place Refusal
   seen s x =
-      on-Step (on-Step x Wrong End λ t line character d. Took (placed s.range.from t) line character d)
-      (λ reason line character. broken (refusal 3 reason s.number line character))
+      on_step (on_step x Err (λ d. Ok (End d)) λ t line character d. Ok (Took (placed s.range.from t) line character d))
+      (λ e. broken (error_at s e))
       (λ d. end (spot s d))
       λ t line character d. token (token_of bundle t) (place s.number line character) (spot s d)
 
@@ -62,27 +62,27 @@ module _ (bundle : Bytes) where
     pub line : ℕ
     pub character : ℕ
     pub behind : Cursor
-    pub steps : step_of (text_of bundle s) c ≡ Took token line character behind
+    pub steps : step_of (text_of bundle s) c ≡ Ok (Took token line character behind)
     pub is : t ≡ token_of bundle (placed s.range.from token)
     pub at : e ≡ spot s behind
 
   next_steps : (s : Source) (c : Cursor) (t : Token') (o : Place) (e : Spot) → next_at bundle s c ≡ token t o e → Stepped s c t e
-  unfolding next_at next_of on-Step
+  unfolding next_at next_of on-Step on_result
   next_steps s c t o e q = go (step_of (text_of bundle s) c) refl q
     where
-      go : (x : Step) → step_of (text_of bundle s) c ≡ x → seen s x ≡ token t o e → Stepped s c t e
-      go (Wrong r l k) p q = different cc
-      go (End f) p q = different cc
-      go (Took u l k f) p q = record { token = u; line = l; character = k; behind = f; steps = p; is = cc; at = cc }
+      go : (x : Result Step LexerError) → step_of (text_of bundle s) c ≡ x → seen s x ≡ token t o e → Stepped s c t e
+      go (Err r) p q = different cc
+      go (Ok (End f)) p q = different cc
+      go (Ok (Took u l k f)) p q = record { token = u; line = l; character = k; behind = f; steps = p; is = cc; at = cc }
 
-  next_ends : (s : Source) (c : Cursor) (f : Spot) → next_at bundle s c ≡ end f → (d : Cursor) × (step_of (text_of bundle s) c ≡ End d)
-  unfolding next_at next_of on-Step
+  next_ends : (s : Source) (c : Cursor) (f : Spot) → next_at bundle s c ≡ end f → (d : Cursor) × (step_of (text_of bundle s) c ≡ Ok (End d))
+  unfolding next_at next_of on-Step on_result
   next_ends s c f q = go (step_of (text_of bundle s) c) refl q
     where
-      go : (x : Step) → step_of (text_of bundle s) c ≡ x → seen s x ≡ end f → (d : Cursor) × (step_of (text_of bundle s) c ≡ End d)
-      go (Wrong r l k) p q = different cc
-      go (End d) p q = (d, p)
-      go (Took u l k d) p q = different cc
+      go : (x : Result Step LexerError) → step_of (text_of bundle s) c ≡ x → seen s x ≡ end f → (d : Cursor) × (step_of (text_of bundle s) c ≡ Ok (End d))
+      go (Err r) p q = different cc
+      go (Ok (End d)) p q = (d, p)
+      go (Ok (Took u l k d)) p q = different cc
 
   gives_tokens : {c e f : Spot} {p : List Token'} → Gives (reading bundle) c p e → next_at bundle e.source e.cursor ≡ end f → HasTokens bundle c.source c.cursor.at p
   gives_tokens {c} {f = f} here q =
@@ -96,7 +96,7 @@ module _ (bundle : Bytes) where
       subst (λ t. HasTokens bundle c.source c.cursor.at (t ∷ p)) (sym x.is) (then l r)
 
   tokens_whole : (s : Source) (c : Cursor) {at : ℕ} {p : List Token'} → c.at ≡ at → HasTokens bundle s at p → Whole (reading bundle) (spot s c) p
-  unfolding next_at next_of on-Step
+  unfolding next_at next_of on-Step on_result
   tokens_whole s c e (last b) =
       let x = complete_end (text_of bundle s) c (subst (λ at. IsBlank (characters_at (text_of bundle s) at) []) (sym e) b) in
       (spot s x.0, (spot s c, (here, ap (seen s) x.1)))

@@ -21,7 +21,6 @@ use Rattle.input.specs.Source.{Spot, spot}
 use Rattle.input.specs.Text.{token_of, left, mandatory_of, refusal_at}
 use Rattle.input.specs.declared.Place.{Place}
 use Rattle.input.specs.declared.Source.{Source}
-use Rattle.keep.specs.declared.Tally.{Tally}
 use Rattle.properties.specs.Eval.{no_number, sign_form, word_form, prop_form, width_form, last_form, form_next, form_all, form_result, Forms, unformed, formed, FormsFrom}
 use Rattle.properties.specs.declared.Form.{Form}
 use Rattle.properties.specs.declared.Form.TheVariants.{Empty, Opening, PropName, PropOpening, WidthName, PropClosing, Increment, Whole, Failed}
@@ -40,6 +39,28 @@ form_as f bundle e h = h ∙ ap (λ t. f (token_of bundle t)) (sym e)
 -- a form that is known
 pub next_as : {f g r : Form} (t : Token') → f ≡ g → r ≡ form_next g t → r ≡ form_next f t
 next_as t e h = h ∙ ap (λ f. form_next f t) (sym e)
+
+-- a form that takes no more
+pub no_more :
+    (f : Form) (t : Token')
+    → (f ≡ Empty → ⊥)
+    → (f ≡ Opening → ⊥)
+    → (f ≡ PropName → ⊥)
+    → (f ≡ PropOpening → ⊥)
+    → (f ≡ WidthName → ⊥)
+    → (f ≡ PropClosing → ⊥)
+    → ((x : Float) → f ≡ Increment x → ⊥)
+    → Failed ≡ form_next f t
+unfolding form_next
+no_more Empty t a b c d e g h = absurd (a refl)
+no_more Opening t a b c d e g h = absurd (b refl)
+no_more PropName t a b c d e g h = absurd (c refl)
+no_more PropOpening t a b c d e g h = absurd (d refl)
+no_more WidthName t a b c d e g h = absurd (e refl)
+no_more PropClosing t a b c d e g h = absurd (g refl)
+no_more (Increment x) t a b c d e g h = absurd (h x refl)
+no_more (Whole x) t a b c d e g h = refl
+no_more Failed t a b c d e g h = refl
 
 pub same_part : {b k : Bool} (p q w : Bytes) → b ≡ same p w → p ≡ q → b ≡ k → same q w ≡ k
 same_part p q w e h m = ap (λ p. same p w) (sym h) ∙ sym e ∙ m

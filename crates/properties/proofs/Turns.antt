@@ -1,7 +1,6 @@
 -- Loops: what is left to read leads to the answer of the whole. R is what is known of an answer, by the bytes left and the tables.
 use Prim.Native.Nat.{ℕ, zero, suc, ◌<◌, ◌≤◌}
 use native.Mathlib.Omega.{arith}
-use mathlib.Core.Path.{◌≡◌, refl, subst, sym}
 use Rattle.base.specs.Bytes.{Bytes}
 use Rattle.base.specs.declared.refusal.Refusal.{Refusal}
 use Rattle.cursor.specs.declared.Cursor.{Cursor}

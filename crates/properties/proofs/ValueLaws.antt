@@ -12,7 +12,6 @@ use Rattle.base.specs.declared.refusal.Refusal.{Refusal}
 use Rattle.cursor.specs.declared.Cursor.{Cursor}
 use Rattle.table.specs.Value.{range_at}
 use Rattle.table.specs.declared.PropertyValue.{PropertyValue}
-use Rattle.grammar.specs.Token.{Name}
 use Rattle.grammar.specs.Reading.{Value, property, color_named}
 use Rattle.grammar.specs.Input.{property_entry, Answer, refused, on_option, after, keep, read}
 use Rattle.keep.specs.Lent.{Lent, lent, value_shown, fresh_numbers, keep_property_of, taken, put_entry, color_at, colors_from, place_from}
@@ -24,7 +23,6 @@ use Rattle.keep.specs.declared.Tally.{Tally}
 use Rattle.keep.proofs.Laws.{option_none, option_some}
 use Rattle.keep.specs.Answers.{Reads, refuses, done}
 use Rattle.properties.specs.Answers.{Values, bad_value, good_value, Leads, stops, leads, Nexts, no_next, at_end, a_next}
-use lib.Ieee.{Float}
 use Rattle.std.specs.Prelude.{Option, Some, None, Result, Ok, Err}
 use Rattle.base.specs.Option.{on_option as on_option', with_option}
 use Rattle.base.proofs.Options.{none_some, ok2_first, ok2_second, ok3_first, ok3_second, ok3_third}

@@ -7,7 +7,6 @@ use Rattle.base.specs.Bytes.{Bytes, ascii, same}
 use Rattle.base.specs.declared.refusal.Refusal.{Refusal}
 use Rattle.cursor.specs.declared.Cursor.{Cursor}
 use Rattle.table.specs.declared.PropertyValue.{PropertyValue}
-use Rattle.token_kind.specs.declared.Token.{Token}
 use Rattle.grammar.specs.Token.{Sign, Token as Token', left_paren, right_paren}
 use Rattle.grammar.specs.View.{on_sign, on_identifier, on_string, on_number}
 use Rattle.grammar.specs.Input.{Answer, refused, read}
@@ -16,7 +15,7 @@ use Rattle.keep.specs.Lent.{Lent}
 use Rattle.keep.specs.Source.{reading}
 use Rattle.input.specs.Source.{Spot, spot}
 use Rattle.properties.specs.Answers.{at_numbers, Values}
-use Rattle.input.specs.Text.{left, token_of}
+use Rattle.input.specs.Text.{left}
 use Rattle.input.specs.declared.Place.{Place}
 use Rattle.input.specs.declared.Source.{Source}
 use Rattle.keep.specs.declared.Tally.{Tally}
@@ -69,10 +68,6 @@ form_result WidthName = none
 form_result PropClosing = none
 form_result (Increment x) = none
 form_result Failed = none
-
--- the form is that of the token, whose names may be those of any bundle
-abbrev pub OfToken : (Token' → Form) → Token → Form → Type 0
-OfToken f t r = (bundle : Bytes) → r ≡ f (token_of bundle t)
 
 -- ---- the tokens up to the semicolon
 

@@ -1,9 +1,8 @@
 // Evals: what is read with the numbers only.
 ghost use Rattle.std.specs.Prelude.{◌≡◌};
 ghost use Rattle.base.specs.Bytes.{ascii, same, within};
-ghost use Rattle.grammar.specs.Token.{left_paren, right_paren};
 ghost use Rattle.input.specs.Text.{token_of};
-ghost use Rattle.properties.specs.Eval.{OfToken, sign_form, word_form, prop_form, width_form, last_form, form_next, FormAnswer, DeltaKept, EvalRead};
+ghost use Rattle.properties.specs.Eval.{word_form, form_next, FormAnswer, DeltaKept, EvalRead};
 
 use crate::Form;
 use base::refusal::{EVAL_FORM, NUMBERS, PARSE, Refusal, TABLE_FULL};
@@ -21,26 +20,6 @@ pub fn is_eval(bundle: &[u8], a: Range) -> bool
     same_bytes(base::part(bundle, a), b"eval")
 }
 
-// An opening bracket leads on.
-fn open_form(t: Token, next: Form) -> Form
-    ensures { OfToken (sign_form left_paren next) t result }
-{
-    match t {
-        Token::LeftParen => next,
-        _ => Form::Failed,
-    }
-}
-
-// A closing bracket leads on.
-fn close_form(t: Token, next: Form) -> Form
-    ensures { OfToken (sign_form right_paren next) t result }
-{
-    match t {
-        Token::RightParen => next,
-        _ => Form::Failed,
-    }
-}
-
 // The one text leads on.
 fn word_form(bundle: &[u8], a: Range, word: &[u8], next: Form) -> Form
     ensures { result ≡ word_form next word.now (within a bundle.now) }
@@ -51,49 +30,20 @@ fn word_form(bundle: &[u8], a: Range, word: &[u8], next: Form) -> Form
     Form::Failed
 }
 
-fn prop_form(bundle: &[u8], t: Token) -> Form
-    ensures { result ≡ prop_form (token_of bundle.now t) }
-{
-    match t {
-        Token::Identifier(a) => word_form(bundle, a, b"prop", Form::PropName),
-        _ => Form::Failed,
-    }
-}
-
-fn width_form(bundle: &[u8], t: Token) -> Form
-    ensures { result ≡ width_form (token_of bundle.now t) }
-{
-    match t {
-        Token::Text(a) => word_form(bundle, a, b"width", Form::WidthName),
-        _ => Form::Failed,
-    }
-}
-
-// A number, or the last bracket without one.
-fn last_form(t: Token) -> Form
-    ensures { OfToken last_form t result }
-{
-    match t {
-        Token::RightParen => Form::Whole(0.0),
-        Token::Number(x) => Form::Increment(x),
-        _ => Form::Failed,
-    }
-}
-
 // The form with one more token.
 fn form_next(bundle: &[u8], f: Form, t: Token) -> Form
     ensures { result ≡ form_next f (token_of bundle.now t) }
 {
-    match f {
-        Form::Empty => open_form(t, Form::Opening),
-        Form::Opening => prop_form(bundle, t),
-        Form::PropName => open_form(t, Form::PropOpening),
-        Form::PropOpening => width_form(bundle, t),
-        Form::WidthName => close_form(t, Form::PropClosing),
-        Form::PropClosing => last_form(t),
-        Form::Increment(x) => close_form(t, Form::Whole(x)),
-        Form::Whole(_) => Form::Failed,
-        Form::Failed => Form::Failed,
+    match (f, t) {
+        (Form::Empty, Token::LeftParen) => Form::Opening,
+        (Form::Opening, Token::Identifier(a)) => word_form(bundle, a, b"prop", Form::PropName),
+        (Form::PropName, Token::LeftParen) => Form::PropOpening,
+        (Form::PropOpening, Token::Text(a)) => word_form(bundle, a, b"width", Form::WidthName),
+        (Form::WidthName, Token::RightParen) => Form::PropClosing,
+        (Form::PropClosing, Token::RightParen) => Form::Whole(0.0),
+        (Form::PropClosing, Token::Number(x)) => Form::Increment(x),
+        (Form::Increment(x), Token::RightParen) => Form::Whole(x),
+        _ => Form::Failed,
     }
 }
 

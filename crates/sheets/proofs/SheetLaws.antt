@@ -12,7 +12,6 @@ use mir.Val.{has_key}
 use denote.Enum.Declared.{tag_of}
 use Rattle.base.specs.Bytes.{Bytes, within}
 use Rattle.base.specs.Choice.{different}
-use Rattle.base.specs.Refusal.{refusal}
 use Rattle.base.specs.declared.Range.{Range}
 use Rattle.base.specs.declared.refusal.Refusal.{Refusal}
 use Rattle.bundle.specs.Bundle.{find_of}
@@ -20,9 +19,10 @@ use Rattle.color.specs.declared.Color.{Color}
 use Rattle.cursor.specs.Cursor.{start}
 use Rattle.cursor.specs.declared.Cursor.{Cursor}
 use Rattle.token_kind.specs.contracts.Token.{the_type}
-use Rattle.token.specs.Elim.{on-Step}
+use Rattle.token.specs.Elim.{on-Step, on_step}
+use Rattle.token_kind.specs.declared.LexerError.{LexerError}
 use Rattle.token.specs.declared.Step.{Step}
-use Rattle.token.specs.declared.Step.TheVariants.{Wrong, End, Took}
+use Rattle.token.specs.declared.Step.TheVariants.{End, Took}
 use Rattle.token_kind.specs.declared.Token.{Token}
 use Rattle.grammar.specs.Token.{Name, Token as Token', semi_colon}
 use Rattle.grammar.specs.Reading.{Reading, rule_item}
@@ -32,7 +32,7 @@ use Rattle.grammar.specs.Input.{color_entry, Answer, refused, read, broken, end,
 use Rattle.keep.specs.Lent.{Lent, lent, keep_color_of, taken, put_entry}
 use Rattle.keep.specs.Source.{reading}
 use Rattle.input.specs.Source.{Spot, spot, source, next_at}
-use Rattle.input.specs.Text.{name_in, token_of, left, next_of, expect_of, place, refusal_at, reached_at}
+use Rattle.input.specs.Text.{name_in, token_of, left, next_of, expect_of, place, refusal_at, reached_at, error_at}
 use Rattle.input.specs.declared.Place.{Place}
 use Rattle.input.specs.declared.Source.{Source}
 use Rattle.keep.specs.declared.Tally.{Tally}
@@ -47,7 +47,7 @@ use Rattle.keep.proofs.Laws.{option_none, option_some, another, beyond}
 use Rattle.properties.proofs.ValueLaws.{after_refused, after_done, lead_stop, lead_on}
 use Rattle.properties.proofs.Turns.{Goes, goes_start, goes_end, goes_on}
 use Rattle.std.specs.Prelude.{Some, None, Result, Ok, Err, Option}
-use Rattle.base.specs.Option.{on_option as on_option', with_option, on_option2}
+use Rattle.base.specs.Option.{on_option as on_option', with_option, on_option2, on_result}
 
 -- ---- storing a colour
 
@@ -98,12 +98,12 @@ module _ {A : Type 0} (Q : Answer A Spot Lent Refusal → Type 0) (bundle : Byte
 
   module _ (c : Cursor) (f : Refusal → Answer A Spot Lent Refusal) (g : Spot → Answer A Spot Lent Refusal) (k : Token' → Place → Spot → Answer A Spot Lent Refusal) where
     by_step :
-        {x : Step}
+        {x : Result Step LexerError}
         → next_of bundle s c ≡ x
         → Q
         (on_next
-        (on-Step x
-        (λ reason line character. broken (refusal 3 reason s.number line character))
+        (on_step x
+        (λ e. broken (error_at s e))
         (λ d. end (spot s d))
         (λ t line character d. token (token_of bundle t) (place s.number line character) (spot s d)))
         f g k)
@@ -113,41 +113,41 @@ module _ {A : Type 0} (Q : Answer A Spot Lent Refusal → Type 0) (bundle : Byte
         subst
         (λ x. Q
         (on_next
-        (on-Step x
-        (λ reason line character. broken (refusal 3 reason s.number line character))
+        (on_step x
+        (λ e. broken (error_at s e))
         (λ d. end (spot s d))
         (λ t line character d. token (token_of bundle t) (place s.number line character) (spot s d)))
         f g k))
         (sym h) q
 
     pub stepped_wrong :
-        {reason line character : ℕ}
-        → next_of bundle s c ≡ Wrong reason line character
-        → Q (f (refusal 3 reason s.number line character))
+        {e : LexerError}
+        → next_of bundle s c ≡ Err e
+        → Q (f (error_at s e))
         → Q (on_next ((reading bundle).next (spot s c)) f g k)
-    unfolding on-Step on_next
+    unfolding on-Step on_next on_result
     stepped_wrong h q = by_step h q
 
-    pub stepped_end : {d : Cursor} → next_of bundle s c ≡ End d → Q (g (spot s d)) → Q (on_next ((reading bundle).next (spot s c)) f g k)
-    unfolding on-Step on_next
+    pub stepped_end : {d : Cursor} → next_of bundle s c ≡ Ok (End d) → Q (g (spot s d)) → Q (on_next ((reading bundle).next (spot s c)) f g k)
+    unfolding on-Step on_next on_result
     stepped_end h q = by_step h q
 
     pub stepped :
         {t : Token} {line character : ℕ} {d : Cursor}
-        → next_of bundle s c ≡ Took t line character d
+        → next_of bundle s c ≡ Ok (Took t line character d)
         → (left bundle s d < left bundle s c → Q (k (token_of bundle t) (place s.number line character) (spot s d)))
         → Q (on_next ((reading bundle).next (spot s c)) f g k)
-    unfolding on-Step on_next
+    unfolding on-Step on_next on_result
     stepped {t} {line} {character} {d} h q = by_step h (q (next_moves bundle s c d t line character h))
 
     -- a token that is known
     pub stepped_as :
         {t v : Token} {line character : ℕ} {d : Cursor}
-        → next_of bundle s c ≡ Took t line character d
+        → next_of bundle s c ≡ Ok (Took t line character d)
         → t ≡ v
         → (left bundle s d < left bundle s c → Q (k (token_of bundle v) (place s.number line character) (spot s d)))
         → Q (on_next ((reading bundle).next (spot s c)) f g k)
-    stepped_as {line = line} {character = character} {d = d} h e q = stepped (h ∙ ap (λ t. Took t line character d) e) q
+    stepped_as {line = line} {character = character} {d = d} h e q = stepped (h ∙ ap (λ t. Ok (Took t line character d)) e) q
 
 -- ---- the beginning of a statement
 

@@ -5,10 +5,12 @@ ghost use Rattle.keep.specs.Lent.{lent};
 ghost use Rattle.sheets.specs.Sheets.{DefinitionKept, DefinitionRead, StatementRead, SheetRead, ImportRead};
 
 use base::Range;
-use base::refusal::{COLORS, LEXER, NO_SUCH_TEXT, Refusal, TABLE_FULL, TOO_DEEP};
+use base::refusal::{COLORS, NO_SUCH_TEXT, Refusal, TABLE_FULL, TOO_DEEP};
 use bundle::find_text;
 use cursor::Cursor;
-use input::tokens::{expect_colon, expect_semicolon, next, read_mandatory_token, refuse_reached};
+use input::tokens::{
+    expect_colon, expect_semicolon, next, read_mandatory_token, refuse_error, refuse_reached,
+};
 use input::{Place, Source};
 use keep::{Tally, keep_color};
 use rules::read_rule;
@@ -67,15 +69,9 @@ fn read_statement(bundle: &[u8], source: Source, c: Cursor) -> Result<Statement,
     ensures { StatementRead bundle.now source c result }
 {
     match next(bundle, source, c) {
-        Step::Wrong(reason, line, character) => Err(Refusal {
-            number: LEXER,
-            reason,
-            text: source.number,
-            line,
-            character,
-        }),
-        Step::End(_) => Ok(Statement::EndOfText),
-        Step::Took(t, line, character, d) => match t {
+        Err(e) => Err(refuse_error(source, e)),
+        Ok(Step::End(_)) => Ok(Statement::EndOfText),
+        Ok(Step::Took(t, line, character, d)) => match t {
             Token::Import(name) => Ok(Statement::ImportOf(name, d)),
             Token::ColorRef(name) => Ok(Statement::ColorOf(name, d)),
             _ => {

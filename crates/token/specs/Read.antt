@@ -21,12 +21,16 @@ use Rattle.base.specs.Option.{on_option, on_option2, on_result2}
 abbrev pub range : ℕ → ℕ → Range
 range from to = record { from = from; to = to }
 
--- a name goes on
-abbrev pub identifier_turn : Bytes → Cursor → Turn Cursor Cursor
-identifier_turn s c = on-Next (next_char s c) (λ d. done c) λ ch d. pick (can_continue_identifier ch) (more d) (done c)
+-- characters of a class go on
+abbrev pub class_turn : (ℕ → Bool) → Bytes → Cursor → Turn Cursor Cursor
+class_turn p s c = on-Next (next_char s c) (λ d. done c) λ ch d. pick (p ch) (more d) (done c)
 
+abbrev pub class_end : (ℕ → Bool) → Bytes → Cursor → Cursor
+class_end p s c = turns (class_turn p s) c (suc (length s)) c
+
+-- behind a name
 unfoldable pub identifier_end : Bytes → Cursor → Cursor
-identifier_end s c = turns (identifier_turn s) c (suc (length s)) c
+identifier_end = class_end can_continue_identifier
 
 unfoldable pub read_identifier : Bytes → ℕ → Cursor → Reading
 read_identifier s from c = let end = identifier_end s c in Ok (Identifier (range from end.at), end)
@@ -63,12 +67,9 @@ read_directive s from c =
     (read_import s (skip_one s 40 c))
     (Ok (ColorRef (range from c.at), c))
 
--- the word goes on
-abbrev pub directive_turn : Bytes → Cursor → Turn Cursor Cursor
-directive_turn s c = on-Next (next_char s c) (λ d. done c) λ ch d. pick (can_be_in_at_directive ch) (more d) (done c)
-
+-- behind a word
 unfoldable pub at_directive_end : Bytes → Cursor → Cursor
-at_directive_end s c = turns (directive_turn s) c (suc (length s)) c
+at_directive_end = class_end can_be_in_at_directive
 
 unfoldable pub read_at_directive : Bytes → Cursor → Reading
 read_at_directive s c =

@@ -8,15 +8,13 @@ use base::Range;
 use base::refusal::OPEN_COMMENT;
 use cursor::blank::next_significant_char;
 use cursor::{Cursor, Significant};
-use token_kind::Token;
+use token_kind::{LexerError, Token, lexer_error};
 
 mod read;
 
-// An error with its reason, line and character; the end, with the place reached; or a token, the line and character
-// that it begins at, and the place behind it.
+// The end, with the place reached, or a token, the line and character that it begins at, and the place behind it.
 #[derive(Clone, Copy)]
 pub enum Step {
-    Wrong(usize, usize, usize),
     End(Cursor),
     Took(Token, usize, usize, Cursor),
 }
@@ -24,15 +22,15 @@ pub enum Step {
 // The next token from a cursor on. Bytes that are no character end the text as its end does: texts are checked to be UTF-8 before.
 // crates/token_laws/specs says what each step consumes and what its lines and characters mean (Claims.antt), and has all tokens of a text
 // (Tokens.antt).
-pub fn next_token(s: &[u8], c: Cursor) -> Step
+pub fn next_token(s: &[u8], c: Cursor) -> Result<Step, LexerError>
     ensures { result ≡ step_of s.now c }
 {
     match next_significant_char(s, c) {
-        Significant::Broken(d) => Step::Wrong(OPEN_COMMENT, d.line, d.character),
-        Significant::Ended(d) => Step::End(d),
-        Significant::Found(idx, ch, d) => match read::read_token(s, idx, ch, d) {
-            Err(e) => Step::Wrong(e.reason, e.line, e.character),
-            Ok((token, e)) => Step::Took(token, d.line, d.character, e),
-        },
+        Err(d) => Err(lexer_error(OPEN_COMMENT, d)),
+        Ok(Significant::Ended(d)) => Ok(Step::End(d)),
+        Ok(Significant::Found(idx, ch, d)) => {
+            let (token, e) = read::read_token(s, idx, ch, d)?;
+            Ok(Step::Took(token, d.line, d.character, e))
+        }
     }
 }

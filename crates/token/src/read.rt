@@ -1,6 +1,6 @@
 // The readers of tokens, in the order of the Rust. Each takes the text and the place behind what was read.
-ghost use Rattle.std.specs.Prelude.{◌≡◌};
-ghost use Rattle.token.specs.Read.{read_token, read_pair, read_single, read_long, read_other, starts_number, read_after_minus, read_at_directive, at_directive_end, read_directive, read_import, skip_one, read_identifier, identifier_end, read_string, read_quoted};
+ghost use Rattle.std.specs.Prelude.{◌≡◌, ℕ, Bool};
+ghost use Rattle.token.specs.Read.{read_token, read_pair, read_single, read_long, read_other, starts_number, read_after_minus, read_at_directive, read_directive, read_import, skip_one, read_identifier, class_end, read_string, read_quoted};
 
 use base::refusal::{AFTER_AT, AFTER_MINUS, IMPORT_STRING, OPEN_STRING, SYMBOL};
 use base::{Range, part, same_bytes};
@@ -115,30 +115,9 @@ fn read_at_directive(s: &[u8], c: Cursor) -> Reading
         Next::Got(ch, d) => {
             if can_be_in_at_directive(ch) {
                 let from = c.at;
-                return read_directive(s, from, at_directive_end(s, d));
+                return read_directive(s, from, class_end(s, d, can_be_in_at_directive));
             }
             Err(lexer_error(AFTER_AT, d))
-        }
-    }
-}
-
-// Behind the word that goes on at c.
-fn at_directive_end(s: &[u8], c: Cursor) -> Cursor
-    ensures { result ≡ at_directive_end s.now c }
-{
-    let mut d = c;
-    loop {
-        match d.next_char(s) {
-            Next::Done(_) => {
-                return d;
-            }
-            Next::Got(ch, e) => {
-                if can_be_in_at_directive(ch) {
-                    d = e;
-                } else {
-                    return d;
-                }
-            }
         }
     }
 }
@@ -180,28 +159,25 @@ fn read_import(s: &[u8], c: Cursor) -> Reading
 fn read_identifier(s: &[u8], from: usize, c: Cursor) -> Reading
     ensures { result ≡ read_identifier s.now from c }
 {
-    let end = identifier_end(s, c);
+    let end = class_end(s, c, can_continue_identifier);
     let to = end.at;
     Ok((Token::Identifier(Range { from, to }), end))
 }
 
-fn identifier_end(s: &[u8], c: Cursor) -> Cursor
-    ensures { result ≡ identifier_end s.now c }
+// Behind the characters of a class that stand at c.
+fn class_end<F: Fn(u32) -> bool>(s: &[u8], c: Cursor, goes_on: F) -> Cursor
+    requires { (ch : ℕ) → F.pre goes_on ch }
+    ensures { (p : ℕ → Bool) → ((ch : ℕ) (r : Bool) → F.post goes_on ch r → r ≡ p ch) → result ≡ class_end p s.now c }
 {
     let mut d = c;
     loop {
-        match d.next_char(s) {
-            Next::Done(_) => {
-                return d;
-            }
-            Next::Got(ch, e) => {
-                if can_continue_identifier(ch) {
-                    d = e;
-                } else {
-                    return d;
-                }
-            }
+        let Next::Got(ch, e) = d.next_char(s) else {
+            return d;
+        };
+        if !goes_on(ch) {
+            return d;
         }
+        d = e;
     }
 }
 

@@ -48,7 +48,7 @@ use Rattle.token_kind.specs.Signs.{first_pair, get_two_char_simple_token, first_
 use Rattle.token.specs.Step.{step_of}
 use Rattle.token_zoom.specs.Zoom.{read_digit, hex, hex_turn, read_hex_digits, read_color, read_zoom_level, read_hyphen, ranged, zoom_range, read_levels, read_zoom_range}
 use Rattle.token.specs.declared.Step.{Step}
-use Rattle.token.specs.declared.Step.TheVariants.{Wrong, End, Took}
+use Rattle.token.specs.declared.Step.TheVariants.{End, Took}
 use Rattle.token_kind.specs.declared.LexerError.{LexerError}
 use Rattle.token_kind.specs.declared.Token.{Token}
 use Rattle.token_zoom.specs.declared.Hex.{Hex}
@@ -417,19 +417,19 @@ record Taken (s : Bytes) (c : Cursor) (t : Token) (line character : ℕ) (d : Cu
   pub at : ℕ
   pub ch : ℕ
   pub first : Cursor
-  pub found : next_significant_char s c ≡ Found at ch first
+  pub found : next_significant_char s c ≡ Ok (Found at ch first)
   pub begun : Begun s c at ch first
   pub on_line : line ≡ first.line
   pub on_character : character ≡ first.character
   pub readied : Readied s first at t d
 
-abbrev Steps : Bytes → Cursor → Step → Type 0
-Steps s c (Wrong reason line character) = Failing s c line character
-Steps s c (End d) = AtEnd s c d
-Steps s c (Took t line character d) = Taken s c t line character d
+abbrev Steps : Bytes → Cursor → Result Step LexerError → Type 0
+Steps s c (Err e) = Failing s c e.line e.character
+Steps s c (Ok (End d)) = AtEnd s c d
+Steps s c (Ok (Took t line character d)) = Taken s c t line character d
 
 steps : (s : Bytes) (c : Cursor) → Steps s c (step_of s c)
-unfolding step_of
+unfolding step_of lexer_error
 steps s c =
     split-Significant (Steps s c) (next_significant_char s c) _ _ _
     (λ d q.
@@ -497,9 +497,9 @@ told :
     (s : Bytes) (c : Cursor)
     → length s < 0x8000_0000_0000_0000
     → Reach s start 0 c
-    → (x : Step) → Steps s c x
+    → (x : Result Step LexerError) → Steps s c x
     → Told s c x
-told s c h r (Wrong reason line character) f =
+told s c h r (Err e) f =
     let w = f.reach in
     let p = reach_more r w.reach in
     let n = w.few in
@@ -512,7 +512,7 @@ told s c h r (Wrong reason line character) f =
       not_many = w.few;
       position = rw (f.on_line, f.on_character) (positioned s (omega arith) p);
     }
-told s c h r (End d) f =
+told s c h r (Ok (End d)) f =
     let p = reach_more r f.reach in
     let n = f.few in
     record {
@@ -524,7 +524,7 @@ told s c h r (End d) f =
       not_many = omega arith;
       position = positioned s (omega arith) p;
     }
-told s c h r (Took t line character d) x =
+told s c h r (Ok (Took t line character d)) x =
     let b = x.begun in
     let f = on (reach_more r b.reach) b.char in
     let p = reach_more f x.readied.reach in (

@@ -51,10 +51,11 @@ use Rattle.token_zoom.specs.Zoom.{
   read_zoom_range,
 }
 use Rattle.token.specs.declared.Step.{Step}
-use Rattle.token.specs.declared.Step.TheVariants.{Wrong, End, Took}
+use Rattle.token_kind.specs.declared.LexerError.{LexerError}
+use Rattle.token.specs.declared.Step.TheVariants.{End, Took}
 use Rattle.token_kind.specs.declared.Token.{Token}
 use Rattle.token_kind.specs.declared.Token.TheVariants.{Color}
-use Rattle.std.specs.Prelude.{Option, Some, None, is_none, ◌&&◌, Ok, Err}
+use Rattle.std.specs.Prelude.{Option, Some, None, is_none, ◌&&◌, Result, Ok, Err}
 
 abbrev Small : Rgb → Type 0
 Small x = (x.r < 256) × ((x.g < 256) × (x.b < 256))
@@ -243,10 +244,10 @@ shown_token s from ch c =
     (λ q. shown_single s from ch c)
     (λ t d q. subst ShownPair q (shown_pair s ch c))
 
-abbrev ShownStep : Step → Type 0
-ShownStep (Wrong r l k) = Unit {0}
-ShownStep (End d) = Unit {0}
-ShownStep (Took t l k d) = Shade t
+abbrev ShownStep : Result Step LexerError → Type 0
+ShownStep (Err e) = Unit {0}
+ShownStep (Ok (End d)) = Unit {0}
+ShownStep (Ok (Took t l k d)) = Shade t
 
 shown_step : (s : Bytes) (c : Cursor) → ShownStep (step_of s c)
 unfolding step_of

@@ -3,7 +3,7 @@ use Rattle.std.specs.Prelude.{ℕ, zero, suc, List, [], ◌∷◌, length}
 use Rattle.base.specs.Bytes.{Bytes}
 use Rattle.cursor.specs.Cursor.{start}
 use Rattle.cursor.specs.declared.Cursor.{Cursor}
-use Rattle.token.specs.Elim.{on-Step}
+use Rattle.token.specs.Elim.{on_step}
 use Rattle.token.specs.Step.{step_of}
 use Rattle.token_kind.specs.declared.Token.{Token}
 
@@ -30,7 +30,7 @@ put t (listed ts l c) = listed (t ∷ ts) l c
 unfoldable pub tokens_from : ℕ → Bytes → Cursor → Tokens
 tokens_from zero s c = listed [] c.line c.character
 tokens_from (suc n) s c =
-    on-Step (step_of s c) wrong (λ d. listed [] d.line d.character) λ t line character d.
+    on_step (step_of s c) (λ e. wrong e.reason e.line e.character) (λ d. listed [] d.line d.character) λ t line character d.
     put (token_at t line character) (tokens_from n s d)
 
 -- a text has no more tokens than bytes

@@ -4,9 +4,11 @@ use borrow.Author.Tests.{eq-eqb, ne_eqb}
 use Rattle.base.proofs.Loops.{going_start, going_more, going_done}
 use Rattle.base.specs.Choice.{if_false, if_true, via}
 use Rattle.cursor.proofs.Onward.{next_on}
+use Rattle.base.proofs.Options.{handed_on, ok_is}
+use Rattle.base.specs.Option.{on_option, result_err, result_ok}
 use Rattle.cursor.proofs.Reaching.{skipped_on}
 use Rattle.cursor.specs.Blank.{next_significant_char}
-use Rattle.cursor.specs.Elim.{Comment-NoComment, Comment-OpenComment, Comment-Skipped, Next-Done, Next-Got}
+use Rattle.cursor.specs.Elim.{Next-Done, Next-Got}
 use Rattle.cursor.proofs.blank.next_significant_char.Goals as goal
 
 pub loop-e-init : goal.loop-e-init
@@ -22,17 +24,19 @@ loop-e-smaller-then-is_white_space c = search (next_on, skipped_on)
 pub loop-e-preserved-then-is_white_space : goal.loop-e-preserved-then-is_white_space
 loop-e-preserved-then-is_white_space c = going_more _ _ _ _ _ _ _ c.loop-e.invariant (sym (Next-Got _ _ _ (via c.next_char.ensures c.in-Got.is) (rw (sym c.is_white_space.ensures) (if_true _ _ _ c.if-is_white_space.true refl)))) (search (next_on, skipped_on))
 
-pub returns-in-OpenComment : goal.returns-in-OpenComment
-returns-in-OpenComment c = going_done _ _ _ _ _ _ c.loop-e.invariant (sym (Next-Got _ _ _ (via c.next_char.ensures c.in-Got.is) (rw (sym c.is_white_space.ensures) (if_false _ _ _ c.if-is_white_space.false (if_true _ _ _ (eq-eqb _ _ c.if-k-eq47.true) (Comment-OpenComment _ _ _ _ (via c.try_skip_comment.ensures c.in-OpenComment.is) refl))))))
+pub returns-in_err-try_skip_comment-in-Got : goal.returns-in_err-try_skip_comment-in-Got
+returns-in_err-try_skip_comment-in-Got c = rw (handed_on _ c.from_residual.ensures) (going_done _ _ _ _ _ _ c.loop-e.invariant (sym (Next-Got _ _ _ (via c.next_char.ensures c.in-Got.is) (rw (sym c.is_white_space.ensures) (if_false _ _ _ c.if-is_white_space.false (if_true _ _ _ (eq-eqb _ _ c.if-k-eq47.true) (result_err _ _ _ (via c.try_skip_comment.ensures c.in_err-try_skip_comment-in-Got.was) refl)))))))
 
-pub returns-in-NoComment : goal.returns-in-NoComment
-returns-in-NoComment c = going_done _ _ _ _ _ _ c.loop-e.invariant (sym (Next-Got _ _ _ (via c.next_char.ensures c.in-Got.is) (rw (sym c.is_white_space.ensures) (if_false _ _ _ c.if-is_white_space.false (if_true _ _ _ (eq-eqb _ _ c.if-k-eq47.true) (Comment-NoComment _ _ _ _ (via c.try_skip_comment.ensures c.in-NoComment.is) refl))))))
+pub returns-in-None : goal.returns-in-None
+unfolding on_option
+returns-in-None c = going_done _ _ _ _ _ _ c.loop-e.invariant (sym (Next-Got _ _ _ (via c.next_char.ensures c.in-Got.is) (rw (sym c.is_white_space.ensures) (if_false _ _ _ c.if-is_white_space.false (if_true _ _ _ (eq-eqb _ _ c.if-k-eq47.true) (result_ok _ _ _ (via c.try_skip_comment.ensures (ok_is c.in_ok-try_skip_comment-in-Got.was c.in-None.is)) refl))))))
 
 pub loop-e-smaller : goal.loop-e-smaller
-loop-e-smaller c = search (next_on, skipped_on)
+loop-e-smaller c = skipped_on _ _ _ _ _ _ _ c.next_char.ensures c.in-Got.is c.try_skip_comment.ensures (ok_is c.in_ok-try_skip_comment-in-Got.was c.in-Some.is)
 
 pub loop-e-preserved : goal.loop-e-preserved
-loop-e-preserved c = going_more _ _ _ _ _ _ _ c.loop-e.invariant (sym (Next-Got _ _ _ (via c.next_char.ensures c.in-Got.is) (rw (sym c.is_white_space.ensures) (if_false _ _ _ c.if-is_white_space.false (if_true _ _ _ (eq-eqb _ _ c.if-k-eq47.true) (Comment-Skipped _ _ _ _ (via c.try_skip_comment.ensures c.in-Skipped.is) refl)))))) (search (next_on, skipped_on))
+unfolding on_option
+loop-e-preserved c = going_more _ _ _ _ _ _ _ c.loop-e.invariant (sym (Next-Got _ _ _ (via c.next_char.ensures c.in-Got.is) (rw (sym c.is_white_space.ensures) (if_false _ _ _ c.if-is_white_space.false (if_true _ _ _ (eq-eqb _ _ c.if-k-eq47.true) (result_ok _ _ _ (via c.try_skip_comment.ensures (ok_is c.in_ok-try_skip_comment-in-Got.was c.in-Some.is)) refl)))))) (skipped_on _ _ _ _ _ _ _ c.next_char.ensures c.in-Got.is c.try_skip_comment.ensures (ok_is c.in_ok-try_skip_comment-in-Got.was c.in-Some.is))
 
 pub returns-else-k-eq47 : goal.returns-else-k-eq47
 returns-else-k-eq47 c = going_done _ _ _ _ _ _ c.loop-e.invariant (sym (Next-Got _ _ _ (via c.next_char.ensures c.in-Got.is) (rw (sym c.is_white_space.ensures) (if_false _ _ _ c.if-is_white_space.false (if_false _ _ _ (ne_eqb _ _ c.if-k-eq47.false) refl)))))

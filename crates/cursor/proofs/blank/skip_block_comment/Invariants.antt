@@ -2,11 +2,11 @@ use Prim.Native.Nat.{◌-◌}
 use lib.ListN.{length}
 use Rattle.base.proofs.Loops.{Going}
 use Rattle.cursor.specs.Blank.{skip_block_comment, block_turn}
-use Rattle.cursor.specs.declared.Comment.TheVariants.{NoComment}
+use Rattle.std.specs.Prelude.{Err}
 use Rattle.cursor.proofs.blank.skip_block_comment.Given as goal
 
 abbrev pub invariant-loop-e : goal.invariant-loop-e
-invariant-loop-e l = Going (block_turn l.s) NoComment (length l.s - l.d.at) l.d (skip_block_comment l.s l.initial.d)
+invariant-loop-e l = Going (block_turn l.s) (Err l.initial.d) (length l.s - l.d.at) l.d (skip_block_comment l.s l.initial.d)
 
 abbrev pub decreases-loop-e : goal.decreases-loop-e
 decreases-loop-e l = length l.s - l.d.at

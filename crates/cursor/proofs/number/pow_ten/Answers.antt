@@ -13,8 +13,5 @@ loop-left-init c = going_start _ _ _ _ _ (omega arith)
 pub returns-then-left-eq0 : goal.returns-then-left-eq0
 returns-then-left-eq0 c = going_done _ _ _ _ _ _ c.loop-left.invariant (sym (rw (sym c.times_odd-result.ensures) (if_true _ _ _ (eq-eqb _ _ c.if-left-eq0.true) refl)))
 
-pub loop-left-smaller : goal.loop-left-smaller
-loop-left-smaller c = omega arith
-
 pub loop-left-preserved : goal.loop-left-preserved
 loop-left-preserved c = going_more _ _ _ _ _ _ _ c.loop-left.invariant (sym (rw (sym c.times_odd-result.ensures) (if_false _ _ _ (ne_eqb _ _ c.if-left-eq0.false) refl))) (omega arith)

@@ -1,40 +1,74 @@
-use Rattle.properties.specs.Eval.{form_next}
-use Rattle.properties.proofs.FormLaws.{next_as}
+use Rattle.properties.proofs.FormLaws.{form_as, next_as, no_more, Is}
+use Rattle.properties.specs.Eval.{sign_form, prop_form, width_form, last_form, form_next}
+use Rattle.properties.specs.declared.Form.TheVariants.{Empty, Opening, PropName, PropOpening, WidthName, PropClosing, Increment}
+use Rattle.input.proofs.TokenLaws.{not_sign, not_identifier, not_string, not_number_lem, cond_false}
+use Rattle.input.specs.Text.{token_of}
+use Rattle.grammar.specs.View.{is_sign, on_identifier, on_string, on_number}
+use Rattle.grammar.specs.Token.{left_paren, right_paren}
+use mathlib.Core.List.{[], ◌∷◌}
 use mathlib.Core.Path.{refl}
+use borrow.Enum.Refused.{opened}
 use Rattle.properties.proofs.eval.form_next.Goals as goal
 
-pub returns-in-Empty : goal.returns-in-Empty
-unfolding form_next
-returns-in-Empty c = next_as _ c.in-Empty.is (c.open_form.ensures _)
+pub returns-in-Empty-LeftParen : goal.returns-in-Empty-LeftParen
+unfolding form_next sign_form prop_form width_form last_form token_of is_sign on_identifier on_string on_number
+returns-in-Empty-LeftParen c = next_as _ c.in-Empty-LeftParen.is-0 (form_as (form_next Empty) _ c.in-Empty-LeftParen.is-1 refl)
 
-pub returns-in-Opening : goal.returns-in-Opening
-unfolding form_next
-returns-in-Opening c = next_as _ c.in-Opening.is c.prop_form.ensures
+pub returns-in-Opening-Identifier : goal.returns-in-Opening-Identifier
+unfolding form_next sign_form prop_form width_form last_form token_of is_sign on_identifier on_string on_number
+returns-in-Opening-Identifier c = next_as _ c.in-Opening-Identifier.is-0 (form_as (form_next Opening) _ c.in-Opening-Identifier.is-1 c.word_form.ensures)
 
-pub returns-in-PropName : goal.returns-in-PropName
-unfolding form_next
-returns-in-PropName c = next_as _ c.in-PropName.is (c.open_form-in-PropName.ensures _)
+pub returns-in-PropName-LeftParen : goal.returns-in-PropName-LeftParen
+unfolding form_next sign_form prop_form width_form last_form token_of is_sign on_identifier on_string on_number
+returns-in-PropName-LeftParen c = next_as _ c.in-PropName-LeftParen.is-0 (form_as (form_next PropName) _ c.in-PropName-LeftParen.is-1 refl)
 
-pub returns-in-PropOpening : goal.returns-in-PropOpening
-unfolding form_next
-returns-in-PropOpening c = next_as _ c.in-PropOpening.is c.width_form.ensures
+pub returns-in-PropOpening-Text : goal.returns-in-PropOpening-Text
+unfolding form_next sign_form prop_form width_form last_form token_of is_sign on_identifier on_string on_number
+returns-in-PropOpening-Text c = next_as _ c.in-PropOpening-Text.is-0 (form_as (form_next PropOpening) _ c.in-PropOpening-Text.is-1 c.word_form-in-PropOpening-Text.ensures)
 
-pub returns-in-WidthName : goal.returns-in-WidthName
-unfolding form_next
-returns-in-WidthName c = next_as _ c.in-WidthName.is (c.close_form.ensures _)
+pub returns-in-WidthName-RightParen : goal.returns-in-WidthName-RightParen
+unfolding form_next sign_form prop_form width_form last_form token_of is_sign on_identifier on_string on_number
+returns-in-WidthName-RightParen c = next_as _ c.in-WidthName-RightParen.is-0 (form_as (form_next WidthName) _ c.in-WidthName-RightParen.is-1 refl)
 
-pub returns-in-PropClosing : goal.returns-in-PropClosing
-unfolding form_next
-returns-in-PropClosing c = next_as _ c.in-PropClosing.is (c.last_form.ensures _)
+pub returns-in-PropClosing-RightParen : goal.returns-in-PropClosing-RightParen
+unfolding form_next sign_form prop_form width_form last_form token_of is_sign on_identifier on_string on_number
+returns-in-PropClosing-RightParen c = next_as _ c.in-PropClosing-RightParen.is-0 (form_as (form_next PropClosing) _ c.in-PropClosing-RightParen.is-1 refl)
 
-pub returns-in-Increment : goal.returns-in-Increment
-unfolding form_next
-returns-in-Increment c = next_as _ c.in-Increment.is (c.close_form-in-Increment.ensures _)
+pub returns-in-PropClosing-Number : goal.returns-in-PropClosing-Number
+unfolding form_next sign_form prop_form width_form last_form token_of is_sign on_identifier on_string on_number
+returns-in-PropClosing-Number c = next_as _ c.in-PropClosing-Number.is-0 (form_as (form_next PropClosing) _ c.in-PropClosing-Number.is-1 refl)
 
-pub returns-in-Whole : goal.returns-in-Whole
-unfolding form_next
-returns-in-Whole c = next_as _ c.in-Whole.is refl
+pub returns-in-Increment-RightParen : goal.returns-in-Increment-RightParen
+unfolding form_next sign_form prop_form width_form last_form token_of is_sign on_identifier on_string on_number
+returns-in-Increment-RightParen c = next_as _ c.in-Increment-RightParen.is-0 (form_as (form_next (Increment _)) _ c.in-Increment-RightParen.is-1 refl)
 
-pub returns-in-Failed : goal.returns-in-Failed
-unfolding form_next
-returns-in-Failed c = next_as _ c.in-Failed.is refl
+pub returns-in_default : goal.returns-in_default
+unfolding form_next sign_form
+returns-in_default c = next_as _ c.in_default.is-0 (cond_false _ _ _ (not_sign _ (7 ∷ []) _ (opened c.in_default.in_default-own.keys2) left_paren tt) refl)
+
+pub returns-in_default-2 : goal.returns-in_default-2
+unfolding form_next prop_form
+returns-in_default-2 c = next_as _ c.in_default.is-0 (not_identifier _ (1 ∷ []) _ (opened c.in_default.in_default-own.keys2) (Is _) _ _ tt refl)
+
+pub returns-in_default-3 : goal.returns-in_default-3
+unfolding form_next sign_form
+returns-in_default-3 c = next_as _ c.in_default.is-0 (cond_false _ _ _ (not_sign _ (7 ∷ []) _ (opened c.in_default.in_default-own.keys2) left_paren tt) refl)
+
+pub returns-in_default-4 : goal.returns-in_default-4
+unfolding form_next width_form
+returns-in_default-4 c = next_as _ c.in_default.is-0 (not_string _ (2 ∷ []) _ (opened c.in_default.in_default-own.keys2) (Is _) _ _ tt refl)
+
+pub returns-in_default-5 : goal.returns-in_default-5
+unfolding form_next sign_form
+returns-in_default-5 c = next_as _ c.in_default.is-0 (cond_false _ _ _ (not_sign _ (8 ∷ []) _ (opened c.in_default.in_default-own.keys2) right_paren tt) refl)
+
+pub returns-in_default-6 : goal.returns-in_default-6
+unfolding form_next last_form
+returns-in_default-6 c = next_as _ c.in_default.is-0 (cond_false _ _ _ (not_sign _ (8 ∷ 3 ∷ []) _ (opened c.in_default.in_default-own.keys3) right_paren tt) (not_number_lem _ (8 ∷ 3 ∷ []) _ (opened c.in_default.in_default-own.keys3) (Is _) _ _ tt refl))
+
+pub returns-in_default-7 : goal.returns-in_default-7
+unfolding form_next sign_form
+returns-in_default-7 c = next_as _ c.in_default.is-0 (cond_false _ _ _ (not_sign _ (8 ∷ []) _ (opened c.in_default.in_default-own.keys2) right_paren tt) refl)
+
+pub returns-in_default-8 : goal.returns-in_default-8
+returns-in_default-8 c = no_more c.args.f _ c.in_default.not-Empty-0 c.in_default.not-Opening-0 c.in_default.not-PropName-0 c.in_default.not-PropOpening-0 c.in_default.not-WidthName-0 c.in_default.not-PropClosing-0 c.in_default.not-Increment-0
