@@ -4,17 +4,13 @@
 
 ghost use Rattle.std.specs.Prelude.{◌≡◌, ◌+◌, ◌≤◌, ◌<◌, length, IfSome};
 
+use base::part;
 use capi_token::mapcss_next_token;
 use std::io;
-use stdio::cases::{bits_of, case_buffer, is_byte, is_long, is_short, run_all, short_at, totals};
+use stdio::cases::{bits_of, is_byte, is_long, is_short, piece_at, replay};
 
 fn main(rt: HostRuntime) -> io::Result<()> {
-    let mut room = case_buffer();
-    let n = stdio::read_full(&mut rt.stdin(), &mut room)?;
-    let cases = &room[..n];
-    let mut out = rt.stdout();
-    let t = run_all(&mut out, cases.len(), |at| case_at(cases, at))?;
-    totals(&mut out, t)
+    replay(&mut rt.stdin(), &mut rt.stdout(), case_at)
 }
 
 // Where the next case starts, and whether this one agrees; nothing if the file ends in it.
@@ -22,17 +18,9 @@ fn case_at(s: &[u8], at: usize) -> Option<(usize, bool)>
     requires { at < length s.now }
     ensures { IfSome result (λ r. (at < r.0) × (r.0 ≤ length s.now)) }
 {
-    let text = at + 2;
-    let behind = text + short_at(s, at);
-    if s.len() < behind {
-        return None;
-    }
-    let answer = behind + 2;
-    let end = answer + short_at(s, behind);
-    if s.len() < end {
-        return None;
-    }
-    Some((end, agrees(&s[text..behind], &s[answer..end])))
+    let text = piece_at(s, at)?;
+    let answer = piece_at(s, text.to)?;
+    Some((answer.to, agrees(part(s, text), part(s, answer))))
 }
 
 // What a step answered: its kind, the cursor behind it, its line and character, its payload.
