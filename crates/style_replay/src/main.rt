@@ -138,11 +138,17 @@ fn layers_are(
     answer: &[u8],
     n: usize,
 ) -> bool {
-    words.chunks_exact(52)
+    words
+        .chunks_exact(52)
         .zip(floats.chunks_exact(6))
         .zip(tags.iter())
         .enumerate()
-        .all(|(k, ((words, floats), tag))| layer_is(words, floats, *tag, stored_layer(answer, n, k)))
+        .all(|(k, ((words, floats), tag))| layer_is(
+            words,
+            floats,
+            *tag,
+            stored_layer(answer, n, k),
+        ))
 }
 
 // The 264 bytes of a layer; none behind the stored ones.
@@ -151,17 +157,22 @@ fn stored_layer(answer: &[u8], n: usize, k: usize) -> &[u8] {
         return &[];
     }
     let from = 264 * k + 2;
-    part(answer, Range { from, to: from + 264 })
+    part(
+        answer,
+        Range {
+            from,
+            to: from + 264,
+        },
+    )
 }
 
 // Whether a layer has the stored words, floats and tag `layer`: of floats their bits, and all NaN are one.
 fn layer_is(words: &[u64], floats: &[f64], tag: i64, stored: &[u8]) -> bool {
-    words.iter()
+    words
+        .iter()
         .enumerate()
         .all(|(i, &w)| w == word_at(stored, 4 * i) as u64)
-        && floats
-            .iter()
-            .enumerate()
-            .all(|(i, &x)| bits_of(x) == long_at(stored, 208 + 8 * i) as u64)
+        && floats.iter().enumerate().all(|(i, &x)| bits_of(x)
+            == long_at(stored, 208 + 8 * i) as u64)
         && tag.cast_unsigned() == long_at(stored, 256) as u64
 }
