@@ -2,128 +2,56 @@
 // them. It prints the number of each case that differs, then the totals.
 #![tactic(auto)]
 
-ghost use Rattle.std.specs.Prelude.{◌≡◌, ◌+◌, ◌≤◌, ◌<◌, length, IfOk, OnOk, ◌++◌, ◌∷◌, [], decimal};
-ghost use Rattle.std.specs.Io.KnownBytes.{Appends};
+ghost use Rattle.std.specs.Prelude.{◌≡◌, ◌+◌, ◌≤◌, ◌<◌, length, IfSome};
 
+use base::{Range, byte_at, part};
 use capi::{mapcss_load, mapcss_style_areas, mapcss_style_entities};
 use std::io;
-use std::io::Write;
+use stdio::cases::{ends_at, float_at, is_told, piece_at, replay, short_at, words_are};
 
 // What out holds before.
 const UNSET: u64 = 18446744073709551615;
 
 fn main(rt: HostRuntime) -> io::Result<()> {
-    let mut cases = case_buffer();
-    let n = stdio::read_full(&mut rt.stdin(), &mut cases)?;
-    let mut out = rt.stdout();
-    let t = run_all(&mut out, &cases[..n])?;
-    line(&mut out, b"cases", t.run)?;
-    line(&mut out, b"mismatches", t.bad)
+    replay(&mut rt.stdin(), &mut rt.stdout(), case_at)
 }
 
-fn line<W: Write>(out: &mut W, name: &[u8], n: u64) -> io::Result<()>
-    ensures { OnOk result (Appends (W.contents out.old) (W.contents out.new) (name.now ++ (32 ∷ (decimal n ++ (10 ∷ []))))) }
-{
-    stdio::line(out, name, n)
-}
-
-// Room for all cases.
-fn case_buffer() -> [u8; 524288]
-    ensures { 524288 ≡ length result }
-{
-    [0; 524288]
-}
-
-#[derive(Clone, Copy)]
-struct Tally {
-    run: u64,
-    bad: u64,
-}
-
-fn run_all<W: Write>(out: &mut W, s: &[u8]) -> io::Result<Tally> {
-    let mut at: usize = 0;
-    let mut run: u64 = 0;
-    let mut bad: u64 = 0;
-    while at < s.len() {
-        let t = turn_at(out, s, at, run)?;
-        at = t.next;
-        bad += t.bad;
-        run += 1;
-    }
-    Ok(Tally { run, bad })
-}
-
-// Where the next case starts, and 1 for a mismatch.
-#[derive(Clone, Copy)]
-struct Turn {
-    next: usize,
-    bad: u64,
-}
-
-fn turn_at<W: Write>(out: &mut W, s: &[u8], at: usize, run: u64) -> io::Result<Turn>
+// Where the next case starts, and whether this one agrees; nothing if the file ends in it.
+fn case_at(s: &[u8], at: usize) -> Option<(usize, bool)>
     requires { at < length s.now }
-    ensures { IfOk result (λ t. (at < t.next) × (t.next ≤ length s.now) × (t.bad ≤ 1)) }
+    ensures { IfSome result (λ r. (at < r.0) × (r.0 ≤ length s.now)) }
 {
-    let bundle = at + 2;
-    let settings = bundle + short_at(s, at);
-    let size = settings + 15;
-    let first = size + 2;
-    let middle = first + short_at(s, size);
-    if s.len() < middle {
-        return broken(out, s, run);
-    }
-    let areas = base::byte_at(s, settings + 12) == 1;
-    let second = middle + size_bytes(areas);
-    let behind = second + second_length(s, middle, areas);
-    if s.len() < behind {
-        return broken(out, s, run);
-    }
-    let answer = behind + 2;
-    let end = answer + short_at(s, behind);
-    if s.len() < end {
-        return broken(out, s, run);
-    }
-    if agrees(
-        &s[bundle..settings],
-        &s[settings..size],
-        &s[first..middle],
-        &s[second..behind],
-        &s[answer..end],
-    ) {
-        return Ok(Turn { next: end, bad: 0 });
-    }
-    line(out, b"mismatch in case", run)?;
-    Ok(Turn { next: end, bad: 1 })
+    let bundle = piece_at(s, at)?;
+    let settings = Range {
+        from: bundle.to,
+        to: bundle.to + 15,
+    };
+    let first = piece_at(s, settings.to)?;
+    let second = second_at(s, part(s, settings), first.to)?;
+    let answer = piece_at(s, second.to)?;
+    let agrees = agrees(
+        part(s, bundle),
+        part(s, settings),
+        part(s, first),
+        part(s, second),
+        part(s, answer),
+    );
+    Some((answer.to, agrees))
 }
 
-// Only areas have a second stream, and its length before it.
-fn size_bytes(areas: bool) -> usize
-    ensures { result ≤ 2 }
-{
-    if areas {
-        return 2;
-    }
-    0
-}
-
-fn second_length(s: &[u8], at: usize, areas: bool) -> usize
+// Only areas have a second stream.
+fn second_at(s: &[u8], settings: &[u8], at: usize) -> Option<Range>
     requires { at ≤ length s.now }
-    ensures { result ≤ 65535 }
+    ensures { IfSome result (λ r. (at ≤ r.to) × (r.to ≤ length s.now)) }
 {
-    if areas {
-        return short_at(s, at);
+    if are_areas(settings) {
+        return piece_at(s, at);
     }
-    0
+    Some(Range { from: at, to: at })
 }
 
-fn broken<W: Write>(out: &mut W, s: &[u8], run: u64) -> io::Result<Turn>
-    ensures { IfOk result (λ t. (t.next ≡ length s.now) × (t.bad ≡ 1)) }
-{
-    line(out, b"broken case", run)?;
-    Ok(Turn {
-        next: s.len(),
-        bad: 1,
-    })
+fn are_areas(settings: &[u8]) -> bool {
+    byte_at(settings, 12) == 1
 }
 
 // Whether the bundle loads, the list is as the case says, and what stands behind the words lent has stayed.
@@ -149,7 +77,7 @@ fn agrees(bundle: &[u8], settings: &[u8], first: &[u8], second: &[u8], answer: &
         return false;
     }
     let mut list = [4294967295u32; 16384];
-    let lent = words_lent(settings);
+    let lent = short_at(settings, 13).min(16384);
     let agreed = lists_as(
         bundle,
         &rules,
@@ -164,30 +92,7 @@ fn agrees(bundle: &[u8], settings: &[u8], first: &[u8], second: &[u8], answer: &
         &mut list[..lent],
         answer,
     );
-    agreed && is_unset(&list, lent)
-}
-
-// How many words a case lends, as far as there is room.
-fn words_lent(settings: &[u8]) -> usize
-    ensures { result ≤ 16384 }
-{
-    let n = short_at(settings, 13);
-    if n < 16384 {
-        return n;
-    }
-    16384
-}
-
-// Whether the words from a place on are what they were.
-fn is_unset(t: &[u32; 16384], from: usize) -> bool {
-    let mut i = from;
-    while i < 16384 {
-        if t[i] != 4294967295 {
-            return false;
-        }
-        i += 1;
-    }
-    true
+    agreed && list[lent..].iter().all(|&w| w == 4294967295)
 }
 
 fn lists_as(
@@ -209,11 +114,11 @@ fn lists_as(
         bundle, rules, selectors, tests, properties, numbers, counts, settings, first, second,
         list, &mut out,
     );
-    if !is_answer(answer, number, out) {
-        return false;
-    }
     let n = entry_count(answer, number);
-    list_is(list, answer, n) && is_long_as(answer, number, n)
+    is_told(answer, number, &out, n as u64)
+        && out[5] == UNSET
+        && words_are(list, answer, 3, 3 * n)
+        && ends_at(answer, number, 6 * n + 3)
 }
 
 // The call of the case.
@@ -231,12 +136,12 @@ fn list_of(
     list: &mut [u32],
     out: &mut [u64],
 ) -> u64 {
-    let zoom = base::byte_at(settings, 0);
-    let style_type = base::byte_at(settings, 1);
+    let zoom = byte_at(settings, 0);
+    let style_type = byte_at(settings, 1);
     let font = [float_at(settings, 3); 1];
-    let given = font_length(settings);
-    let for_labels = base::byte_at(settings, 11) == 1;
-    if base::byte_at(settings, 12) == 1 {
+    let given = usize::from(byte_at(settings, 2) == 1);
+    let for_labels = byte_at(settings, 11) == 1;
+    if are_areas(settings) {
         return mapcss_style_areas(
             bundle,
             rules,
@@ -273,47 +178,6 @@ fn list_of(
     )
 }
 
-fn font_length(settings: &[u8]) -> usize
-    ensures { result ≤ 1 }
-{
-    if base::byte_at(settings, 2) == 1 {
-        return 1;
-    }
-    0
-}
-
-// The number of a list is 0 and is followed by its count; a refusal is its five numbers.
-fn is_answer(answer: &[u8], number: u64, out: [u64; 6]) -> bool {
-    if !is_byte(answer, 0, number) {
-        return false;
-    }
-    if out[5] != UNSET {
-        return false;
-    }
-    if number == 0 {
-        return is_short(answer, 1, out[0])
-            && out[1] == 0
-            && out[2] == 0
-            && out[3] == 0
-            && out[4] == 0;
-    }
-    out[0] == number
-        && is_byte(answer, 1, out[1])
-        && is_byte(answer, 2, out[2])
-        && is_short(answer, 3, out[3])
-        && is_short(answer, 5, out[4])
-}
-
-// Whether the stored answer ends where its entries do.
-fn is_long_as(answer: &[u8], number: u64, n: usize) -> bool
-    requires { n ≤ 65535 }
-{
-    if number == 0 {
-        return answer.len() == 6 * n + 3;
-    }
-    answer.len() == 7
-}
-
 // The stored number of entries; a refusal leaves none.
 fn entry_count(answer: &[u8], number: u64) -> usize
     ensures { result ≤ 65535 }
@@ -322,81 +186,4 @@ fn entry_count(answer: &[u8], number: u64) -> usize
         return short_at(answer, 1);
     }
     0
-}
-
-// Whether the list has the stored entries, and zeros behind them.
-fn list_is(t: &[u32], answer: &[u8], n: usize) -> bool
-    requires { n ≤ 65535 }
-{
-    let mut i: usize = 0;
-    while i < t.len() {
-        if whole(t[i]) != stored_word(answer, n, i) {
-            return false;
-        }
-        i += 1;
-    }
-    true
-}
-
-fn whole(w: u32) -> usize {
-    w as usize
-}
-
-fn stored_word(answer: &[u8], n: usize, i: usize) -> usize
-    requires { n ≤ 65535 }
-{
-    if i < 3 * n {
-        return short_at(answer, 2 * i + 3);
-    }
-    0
-}
-
-fn wide(b: u8) -> usize
-    ensures { result ≤ 255 }
-{
-    b as usize
-}
-
-// Two bytes, lowest first.
-fn short_at(s: &[u8], at: usize) -> usize
-    requires { at ≤ length s.now + 16777216 }
-    ensures { result ≤ 65535 }
-{
-    wide(base::byte_at(s, at)) + 256 * wide(base::byte_at(s, at + 1))
-}
-
-// Four bytes.
-fn word_at(s: &[u8], at: usize) -> u64
-    requires { at ≤ 1048576 }
-    ensures { result ≤ 4294967295 }
-{
-    (short_at(s, at) + 65536 * short_at(s, at + 2)) as u64
-}
-
-// Eight bytes.
-fn long_at(s: &[u8], at: usize) -> u64
-    requires { at ≤ 524288 }
-{
-    word_at(s, at) + 4294967296 * word_at(s, at + 4)
-}
-
-// The float with the stored bits.
-fn float_at(s: &[u8], at: usize) -> f64
-    requires { at ≤ 524288 }
-{
-    let n = long_at(s, at);
-    if n % 9223372036854775808 <= 0x7ff0_0000_0000_0000 {
-        return f64::from_bits(n);
-    }
-    0.0 / 0.0
-}
-
-fn is_byte(answer: &[u8], i: usize, n: u64) -> bool {
-    wide(base::byte_at(answer, i)) as u64 == n
-}
-
-fn is_short(answer: &[u8], i: usize, n: u64) -> bool
-    requires { i ≤ 16777216 }
-{
-    is_byte(answer, i, n % 256) && is_byte(answer, i + 1, n / 256)
 }

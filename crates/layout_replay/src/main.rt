@@ -2,29 +2,38 @@
 // whose answer differs, then the totals.
 #![tactic(auto)]
 
-ghost use Rattle.std.specs.Prelude.{◌≡◌, ◌+◌, ◌*◌, ◌≤◌, ◌<◌, length, IfOk, OnOk, ◌++◌, ◌∷◌, [], decimal};
-ghost use Rattle.std.specs.Io.KnownBytes.{Appends};
+ghost use Rattle.std.specs.Prelude.{◌≡◌, ◌+◌, ◌*◌, ◌≤◌, ◌<◌, length, IfSome};
 
-use base::Range;
 use base::refusal::Refusal;
+use base::{Range, byte_at, part};
 use entity::{EntityRange, Sort};
 use std::io;
-use std::io::Write;
+use stdio::cases::{piece_at, replay, word_at};
 
 fn main(rt: HostRuntime) -> io::Result<()> {
-    let mut cases = stdio::large_buffer();
-    let n = stdio::read_full(&mut rt.stdin(), &mut cases)?;
-    let mut input = input_buffer();
-    let mut out = rt.stdout();
-    let t = run_all(&mut out, &cases[..n], &mut input)?;
-    line(&mut out, b"cases", t.run)?;
-    line(&mut out, b"mismatches", t.bad)
+    replay(&mut rt.stdin(), &mut rt.stdout(), case_at)
 }
 
-fn line<W: Write>(out: &mut W, name: &[u8], n: u64) -> io::Result<()>
-    ensures { OnOk result (Appends (W.contents out.old) (W.contents out.new) (name.now ++ (32 ∷ (decimal n ++ (10 ∷ []))))) }
+// Where the next case starts, and whether this one agrees; nothing if the file ends in it.
+fn case_at(s: &[u8], at: usize) -> Option<(usize, bool)>
+    requires { at < length s.now }
+    ensures { IfSome result (λ r. (at < r.0) × (r.0 ≤ length s.now)) }
 {
-    stdio::line(out, name, n)
+    let prefix = piece_at(s, at + 1)?;
+    let words = prefix.to + 6;
+    let end = words + 4 * usize::from(byte_at(s, prefix.to + 5));
+    if s.len() < end {
+        return None;
+    }
+    let mut input = input_buffer();
+    let n = fill_input(
+        &mut input,
+        part(s, prefix),
+        byte_at(s, prefix.to),
+        word_at(s, prefix.to + 1),
+    );
+    let given = part(&input, Range { from: 0, to: n });
+    Some((end, answers(s[at], given, &s[words..end])))
 }
 
 // Room for the longest input.
@@ -34,123 +43,14 @@ fn input_buffer() -> [u8; 1048640]
     [0; 1048640]
 }
 
-#[derive(Clone, Copy)]
-struct Tally {
-    run: u64,
-    bad: u64,
-}
-
-fn run_all<W: Write>(out: &mut W, s: &[u8], input: &mut [u8]) -> io::Result<Tally> {
-    let mut at: usize = 0;
-    let mut run: u64 = 0;
-    let mut bad: u64 = 0;
-    while at < s.len() {
-        let t = turn_at(out, s, at, run, input)?;
-        at = t.next;
-        bad += t.bad;
-        run += 1;
-    }
-    Ok(Tally { run, bad })
-}
-
-// Where the next case starts, and 1 for a mismatch.
-#[derive(Clone, Copy)]
-struct Turn {
-    next: usize,
-    bad: u64,
-}
-
-// One case, with what it prints.
-fn turn_at<W: Write>(
-    out: &mut W,
-    s: &[u8],
-    at: usize,
-    run: u64,
-    input: &mut [u8],
-) -> io::Result<Turn>
-    requires { at < length s.now }
-    ensures { IfOk result (λ t. (at < t.next) × (t.next ≤ length s.now) × (t.bad ≤ 1)) }
-{
-    let prefix = at + 3;
-    let fill = prefix + short_at(s, at + 1);
-    let words = fill + 6;
-    if s.len() < words {
-        line(out, b"broken case", run)?;
-        return Ok(Turn {
-            next: s.len(),
-            bad: 1,
-        });
-    }
-    let end = words + 4 * wide(base::byte_at(s, fill + 5));
-    if s.len() < end {
-        line(out, b"broken case", run)?;
-        return Ok(Turn {
-            next: s.len(),
-            bad: 1,
-        });
-    }
-    let n = fill_input(
-        input,
-        &s[prefix..fill],
-        base::byte_at(s, fill),
-        long_at(s, fill + 1),
-    );
-    if answers(
-        s[at],
-        base::part(input, Range { from: 0, to: n }),
-        &s[words..end],
-    ) {
-        return Ok(Turn { next: end, bad: 0 });
-    }
-    line(out, b"mismatch in case", run)?;
-    Ok(Turn { next: end, bad: 1 })
-}
-
-fn wide(b: u8) -> usize
-    ensures { (result ≡ b) × (result ≤ 255) }
-{
-    b as usize
-}
-
-// Two and four bytes, lowest first.
-fn short_at(s: &[u8], at: usize) -> usize
-    requires { at ≤ length s.now }
-    ensures { result ≤ 65535 }
-{
-    wide(base::byte_at(s, at)) + 256 * wide(base::byte_at(s, at + 1))
-}
-
-fn long_at(s: &[u8], at: usize) -> usize
-    requires { at ≤ length s.now }
-    ensures { result ≤ 4294967295 }
-{
-    short_at(s, at) + 65536 * short_at_2(s, at)
-}
-
-fn short_at_2(s: &[u8], at: usize) -> usize
-    requires { at ≤ length s.now }
-    ensures { result ≤ 65535 }
-{
-    wide(base::byte_at(s, at + 2)) + 256 * wide(base::byte_at(s, at + 3))
-}
-
 // The input of a case: its prefix, then the fill byte so many times. Answers its length.
 fn fill_input(input: &mut [u8], prefix: &[u8], fill: u8, count: usize) -> usize
     requires { count ≤ 4294967295 }
 {
-    let mut i: usize = 0;
-    while i < input.len() {
-        input[i] = input_byte(prefix, fill, i);
-        i += 1;
-    }
+    input.fill(fill);
+    let n = prefix.len().min(input.len());
+    input[..n].copy_from_slice(&prefix[..n]);
     prefix.len() + count
-}
-
-fn input_byte(prefix: &[u8], fill: u8, i: usize) -> u8 {
-    if i < prefix.len() {
-        return prefix[i];
-    }
-    fill
 }
 
 // Whether the answer to an input is the words.
@@ -168,126 +68,101 @@ fn answers(entry: u8, s: &[u8], w: &[u8]) -> bool {
 }
 
 // Whether word i is a number.
-fn is_word(w: &[u8], i: usize, n: u64) -> bool
-    requires { i ≤ 1048576 }
-{
-    let at = i * 4;
-    if w.len() < at + 4 {
-        return false;
-    }
-    long_at(w, at) as u64 == n
+fn is_word(w: &[u8], i: usize, n: u64) -> bool {
+    i < w.len() / 4 && word_at(w, i * 4) as u64 == n
 }
 
-fn refusal_is(r: Refusal, w: &[u8], i: usize) -> bool
-    requires { i ≤ 65536 }
-{
-    is_word(w, i, 1)
-        && is_word(w, i + 1, r.number as u64)
-        && is_word(w, i + 2, r.reason as u64)
-        && is_word(w, i + 3, r.text as u64)
-        && is_word(w, i + 4, r.line as u64)
-        && is_word(w, i + 5, r.character as u64)
+// The words from word i on.
+fn words_from(w: &[u8], i: usize) -> &[u8] {
+    if w.len() / 4 < i {
+        return &[];
+    }
+    &w[4 * i..]
+}
+
+fn refusal_is(r: Refusal, w: &[u8]) -> bool {
+    is_word(w, 0, 1)
+        && is_word(w, 1, r.number as u64)
+        && is_word(w, 2, r.reason as u64)
+        && is_word(w, 3, r.text as u64)
+        && is_word(w, 4, r.line as u64)
+        && is_word(w, 5, r.character as u64)
 }
 
 fn bundle_answers(s: &[u8], w: &[u8]) -> bool {
     match bundle::check_bundle(s) {
-        Err(r) => refusal_is(r, w, 0),
+        Err(r) => refusal_is(r, w),
         Ok(n) => is_word(w, 0, 0) && is_word(w, 1, n as u64) && texts_are(s, n, w),
     }
 }
 
 fn texts_are(s: &[u8], n: usize, w: &[u8]) -> bool {
-    let mut k: usize = 0;
-    while k < 64 {
-        if k < n {
-            if !text_is(s, k, w) {
-                return false;
-            }
-        }
-        k += 1;
-    }
-    true
+    (0..n.min(64)).all(|k| text_is(s, k, w))
 }
 
 // Text k has the ranges that the words say, and is found by its name.
 fn text_is(s: &[u8], k: usize, w: &[u8]) -> bool
     requires { k < 64 }
 {
-    match bundle::text_at(s, k) {
-        None => false,
-        Some((a, b)) => {
-            range_is(a, w, 4 * k + 2)
-                && range_is(b, w, 4 * k + 4)
-                && found_is(bundle::find_text(s, base::part(s, a)), k, b)
-        }
-    }
+    let Some((a, b)) = bundle::text_at(s, k) else {
+        return false;
+    };
+    range_is(a, words_from(w, 4 * k + 2))
+        && range_is(b, words_from(w, 4 * k + 4))
+        && bundle::find_text(s, part(s, a)).is_some_and(|(j, t)| j == k && same_range(t, b))
 }
 
-fn range_is(r: Range, w: &[u8], i: usize) -> bool
-    requires { i ≤ 65536 }
-{
-    is_word(w, i, r.from as u64) && is_word(w, i + 1, r.to as u64)
+fn range_is(r: Range, w: &[u8]) -> bool {
+    is_word(w, 0, r.from as u64) && is_word(w, 1, r.to as u64)
 }
 
-fn found_is(f: Option<(usize, Range)>, k: usize, r: Range) -> bool {
-    match f {
-        None => false,
-        Some((j, t)) => j == k && t.from == r.from && t.to == r.to,
-    }
+fn same_range(a: Range, b: Range) -> bool {
+    a.from == b.from && a.to == b.to
 }
 
-fn entity_is(e: EntityRange, w: &[u8], i: usize) -> bool
-    requires { i ≤ 65536 }
-{
-    is_word(w, i, 0)
-        && is_word(w, i + 1, e.kind as u64)
-        && is_word(w, i + 2, e.id % 4294967296)
-        && is_word(w, i + 3, e.id / 4294967296)
-        && is_word(w, i + 4, e.tags as u64)
-        && is_word(w, i + 5, e.count as u64)
-        && is_word(w, i + 6, e.end as u64)
+fn entity_is(e: EntityRange, w: &[u8]) -> bool {
+    is_word(w, 0, 0)
+        && is_word(w, 1, e.kind as u64)
+        && is_word(w, 2, e.id % 4294967296)
+        && is_word(w, 3, e.id / 4294967296)
+        && is_word(w, 4, e.tags as u64)
+        && is_word(w, 5, e.count as u64)
+        && is_word(w, 6, e.end as u64)
 }
 
 fn single_answers(s: &[u8], w: &[u8]) -> bool {
     match entity::single_entity(s) {
-        Err(r) => refusal_is(r, w, 0),
-        Ok(e) => entity_is(e, w, 0),
+        Err(r) => refusal_is(r, w),
+        Ok(e) => entity_is(e, w),
     }
 }
 
 // The entities of a stream one after another, each also by its number.
 fn stream_answers(s: &[u8], sort: Sort, multipolygons: bool, w: &[u8]) -> bool {
     let mut at: usize = 0;
-    let mut place: usize = 0;
-    while place < 64 {
+    for place in 0..64 {
+        let told = words_from(w, 7 * place);
         match entity::next_entity(s, sort, multipolygons, at, place) {
             Err(r) => {
-                return refusal_is(r, w, 7 * place);
+                return refusal_is(r, told);
             }
             Ok(None) => {
-                return is_word(w, 7 * place, 2);
+                return is_word(told, 0, 2);
             }
             Ok(Some(e)) => {
-                let end = e.end;
-                if !entity_is(e, w, 7 * place) {
+                let part = Range {
+                    from: at,
+                    to: e.end,
+                };
+                at = e.end;
+                let by_number = entity::nth_entity(s, sort, place);
+                if !entity_is(e, told) || !by_number.is_some_and(|r| same_range(r, part)) {
                     return false;
                 }
-                if !part_is(entity::nth_entity(s, sort, place), at, end) {
-                    return false;
-                }
-                at = end;
-                place += 1;
             }
         }
     }
     false
-}
-
-fn part_is(p: Option<Range>, from: usize, to: usize) -> bool {
-    match p {
-        None => false,
-        Some(r) => r.from == from && r.to == to,
-    }
 }
 
 fn number_answers(s: &[u8], most: u64, w: &[u8]) -> bool {

@@ -4,20 +4,16 @@
 
 ghost use Rattle.std.specs.Prelude.{◌≡◌, ◌+◌, ◌≤◌, ◌<◌, length, IfSome};
 
+use base::part;
 use base::refusal::Refusal;
 use std::io;
-use stdio::cases::{case_buffer, run_all, short_at, totals};
+use stdio::cases::{piece_at, replay};
 
 // No place of an output.
 const NOWHERE: usize = 18446744073709551615;
 
 fn main(rt: HostRuntime) -> io::Result<()> {
-    let mut room = case_buffer();
-    let n = stdio::read_full(&mut rt.stdin(), &mut room)?;
-    let cases = &room[..n];
-    let mut out = rt.stdout();
-    let t = run_all(&mut out, cases.len(), |at| case_at(cases, at))?;
-    totals(&mut out, t)
+    replay(&mut rt.stdin(), &mut rt.stdout(), case_at)
 }
 
 // Where the next case starts, and whether this one agrees; nothing if the file ends in it.
@@ -25,17 +21,9 @@ fn case_at(s: &[u8], at: usize) -> Option<(usize, bool)>
     requires { at < length s.now }
     ensures { IfSome result (λ r. (at < r.0) × (r.0 ≤ length s.now)) }
 {
-    let input = at + 2;
-    let size = input + short_at(s, at);
-    if s.len() < size {
-        return None;
-    }
-    let output = size + 2;
-    let end = output + short_at(s, size);
-    if s.len() < end {
-        return None;
-    }
-    Some((end, agrees(&s[input..size], &s[output..end])))
+    let input = piece_at(s, at)?;
+    let output = piece_at(s, input.to)?;
+    Some((output.to, agrees(part(s, input), part(s, output))))
 }
 
 // Whether plate prints this output. What is lent holds something else before.
@@ -60,7 +48,7 @@ fn agrees(input: &[u8], output: &[u8]) -> bool {
         Err(e) => { refusal_behind(e, output) == output.len() }
         Ok((b, layers)) => {
             layers_agree(
-                base::part(input, b),
+                part(input, b),
                 &selectors,
                 &properties,
                 &maps,

@@ -3,13 +3,11 @@
 // The rules of `default` differ, one sheet has a layer `b` too, and ids and other tags differ.
 #![tactic(auto)]
 
-ghost use Rattle.std.specs.Prelude.{◌≤◌, OnOk, ◌++◌, ◌∷◌, [], decimal};
-ghost use Rattle.std.specs.Io.KnownBytes.{Appends};
-
 use base::refusal::Refusal;
 use color::Color;
 use std::io;
-use std::io::Write;
+use stdio::cases::bits_of;
+use stdio::line;
 use table::PropertyValue;
 use valid::Counts;
 
@@ -41,7 +39,11 @@ fn main(rt: HostRuntime) -> io::Result<()> {
         b"\x01\xac\x02\x04\x07highway\x04path\x05layer\x03+01\x03lit\x03yes\x04name\x01x",
     );
     let mut out = rt.stdout();
-    line(&mut out, b"loaded", flag(a.loaded) + flag(b.loaded))?;
+    line(
+        &mut out,
+        b"loaded",
+        u64::from(a.loaded) + u64::from(b.loaded),
+    )?;
     line(&mut out, b"layers", a.layers)?;
     line(&mut out, b"layers", b.layers)?;
     line(&mut out, b"c alike", alike(&a.c, &b.c))?;
@@ -54,31 +56,10 @@ fn main(rt: HostRuntime) -> io::Result<()> {
     )
 }
 
-fn line<W: Write>(out: &mut W, name: &[u8], n: u64) -> io::Result<()>
-    ensures { OnOk result (Appends (W.contents out.old) (W.contents out.new) (name.now ++ (32 ∷ (decimal n ++ (10 ∷ []))))) }
-{
-    stdio::line(out, name, n)
-}
-
-fn flag(b: bool) -> u64
-    ensures { result ≤ 1 }
-{
-    if b { 1 } else { 0 }
-}
-
 // 1 if both hold something, whole, and are equal.
 fn alike(x: &Words, y: &Words) -> u64 {
-    if x[0] < 2 || 127 < x[0] {
-        return 0;
-    }
-    let mut i: usize = 0;
-    while i < 128 {
-        if x[i] != y[i] {
-            return 0;
-        }
-        i += 1;
-    }
-    1
+    let whole = 2 <= x[0] && x[0] <= 127;
+    u64::from(whole && x.iter().zip(y.iter()).all(|(a, b)| a == b))
 }
 
 // The tables: rules r, selectors s, tests t, properties p, numbers x, colours q, property maps m.
@@ -137,13 +118,9 @@ fn properties_of(b: &[u8], s: &Table, p: &Table, x: &[f64; 512], m: &Maps, name:
     let row = styles::parts::row_of(m, i);
     let mut out = [0u64; 128];
     let mut n: usize = 1;
-    let mut j: usize = 0;
-    while j < row.len() {
-        let k = row[j];
-        let q = k as usize;
-        let at = put_name(&mut out, n, walk::names::name_of(b, &p[..], k));
-        n = put_value(&mut out, at, p, x, q);
-        j += 1;
+    for k in row {
+        let at = put_name(&mut out, n, walk::names::name_of(b, &p[..], *k));
+        n = put_value(&mut out, at, p, x, *k as usize);
     }
     out[0] = n as u64;
     out
@@ -151,10 +128,8 @@ fn properties_of(b: &[u8], s: &Table, p: &Table, x: &[f64; 512], m: &Maps, name:
 
 fn put_name(out: &mut Words, n: usize, name: &[u8]) -> usize {
     let mut m = put(out, n, name.len() as u64);
-    let mut i: usize = 0;
-    while i < name.len() {
-        m = put(out, m, name[i] as u64);
-        i += 1;
+    for b in name {
+        m = put(out, m, u64::from(*b));
     }
     m
 }
@@ -177,10 +152,7 @@ fn put_value(out: &mut Words, n: usize, p: &Table, x: &[f64; 512], q: usize) -> 
 // What it is, and its bits; all NaN are one.
 fn put_number(out: &mut Words, n: usize, kind: u64, x: f64) -> usize {
     let m = put(out, n, kind);
-    if x == x {
-        return put(out, m, f64::to_bits(x));
-    }
-    put(out, m, 0x7ff8_0000_0000_0000)
+    put(out, m, bits_of(x))
 }
 
 // A number that may be absent.
@@ -203,7 +175,7 @@ fn put(out: &mut Words, n: usize, w: u64) -> usize {
 fn color_word(c: Option<Color>) -> u64 {
     match c {
         None => 0,
-        Some(c) => 16777216 + 65536 * (c.r as u64) + 256 * (c.g as u64) + c.b as u64,
+        Some(c) => 16777216 + 65536 * u64::from(c.r) + 256 * u64::from(c.g) + u64::from(c.b),
     }
 }
 
@@ -223,15 +195,13 @@ fn style_of(bundle: &[u8], s: &Table, all: &styles::EntityStyles, name: &[u8]) -
     let Ok(n) = answer else {
         return out;
     };
-    let mut i: usize = 0;
-    while i < 32 {
+    for i in 0..n.min(32) {
         let l = layers[i];
-        if i < n && walk::names::is_layer(bundle, &s[..], l.selector, name) {
+        if walk::names::is_layer(bundle, &s[..], l.selector, name) {
             let style = l.style;
             let k = put_style(&mut out, style);
             out[0] = k as u64;
         }
-        i += 1;
     }
     out
 }
@@ -251,7 +221,7 @@ fn put_style(out: &mut Words, s: style::Style) -> usize {
     let n = put(out, n, color_word(background));
     let n = put(out, n, color_word(casing));
     let n = put(out, n, color_word(text));
-    let n = put_number(out, n, flag(s.is_foreground_fill), s.z_index);
+    let n = put_number(out, n, u64::from(s.is_foreground_fill), s.z_index);
     let n = put_measure(out, n, s.opacity);
     let n = put_measure(out, n, s.fill_opacity);
     let n = put_measure(out, n, s.width);

@@ -1,14 +1,39 @@
 // What the programs share that replay a case file: its numbers, lowest byte first, and what they print of a case.
 
-ghost use Rattle.std.specs.Prelude.{◌≡◌, ◌≤◌, ◌<◌, ℕ, Bool, Some, length, get_or, eqb, cond, IfOk, OnOk, ◌++◌};
+ghost use Rattle.std.specs.Prelude.{◌≡◌, ◌≤◌, ◌<◌, ℕ, Bool, Some, IfSome, length, get_or, eqb, cond, ltb, ◌&&◌, ◌+◌, ◌*◌, IfOk, OnOk, ◌++◌};
 ghost use Rattle.std.specs.Float.{binary64};
-ghost use Rattle.std.specs.Io.KnownBytes.{Appends};
+ghost use Rattle.std.specs.Io.KnownBytes.{Appends, Consumes};
 ghost use Rattle.std.specs.Float.Ieee.{of_bits, to_bits};
-ghost use Rattle.stdio.specs.Cases.{short, word, long, named, Ran};
+ghost use Rattle.stdio.specs.Cases.{short, word, long, named, Ran, Replayed, piece, entry, are_words, refusal, counted};
 
-use crate::line;
+use crate::{line, read_full};
+use base::{Range, at_or};
 use std::io;
-use std::io::Write;
+use std::io::{Read, Write};
+
+// Replays the cases of an input: one closure reads and answers the case at a place, as `run_all` asks for it.
+pub fn replay<R: Read, W: Write, F: Fn(&[u8], usize) -> Option<(usize, bool)>>(
+    from: &mut R,
+    out: &mut W,
+    case_at: F,
+) -> io::Result<()>
+    requires callable { (s : _) (at : ℕ) → at < length s.now → F.pre case_at s at }
+    requires forward { (s : _) (at end : ℕ) (agrees : Bool) → at < length s.now → F.post case_at s at (Some (end, agrees)) → (at < end) × (end ≤ length s.now) }
+    ensures { OnOk result (Replayed (λ s. s.now) (λ s at r. F.post case_at s at r) (λ b. Consumes (R.remaining from.old) (R.remaining from.new) b) (λ b. (before : _) × Appends before (W.contents out.new) b)) }
+{
+    let mut room = case_buffer();
+    let n = read_full(from, &mut room)?;
+    let cases = &room[..n];
+    let t = run_all(
+        out,
+        cases.len(),
+        |at|
+            requires { F.pre case_at cases at }
+            ensures { F.post case_at cases.entry at result }
+        { case_at(cases, at) },
+    )?;
+    totals(out, t)
+}
 
 // Room for all cases.
 pub fn case_buffer() -> [u8; 524288]
@@ -67,6 +92,22 @@ pub fn totals<W: Write>(out: &mut W, t: Tally) -> io::Result<()>
     line(out, b"mismatches", t.bad)
 }
 
+// The bytes that stand behind their number, which has two bytes, at a place; nothing if the file ends in them.
+pub fn piece_at(s: &[u8], at: usize) -> Option<Range>
+    ensures value { result ≡ piece s.now at }
+    ensures bound { IfSome result (λ r. (at < r.from) × (r.from ≤ r.to) × (r.to ≤ length s.now)) }
+{
+    if s.len() <= at {
+        return None;
+    }
+    let from = at + 2;
+    let to = from + short_at(s, at);
+    if s.len() < to {
+        return None;
+    }
+    Some(Range { from, to })
+}
+
 // Two bytes; past the end stand zeros.
 pub fn short_at(s: &[u8], at: usize) -> usize
     ensures value { result ≡ short s.now at }
@@ -76,6 +117,28 @@ pub fn short_at(s: &[u8], at: usize) -> usize
         return 0;
     }
     usize::from(base::byte_at(s, at)) + 256 * usize::from(base::byte_at(s, at + 1))
+}
+
+// Entry i of so many that are stored from a place on, two bytes each; zeros stand behind them.
+pub fn entry_at(s: &[u8], at: usize, entries: usize, i: usize) -> usize
+    ensures { result ≡ cond (ltb i entries) (short s.now (at + 2 * i)) 0 }
+{
+    if entries <= i || s.len() <= at || (s.len() - at) / 2 < i {
+        return 0;
+    }
+    short_at(s, at + 2 * i)
+}
+
+// Whether the words of a table are the stored ones, of which there are so many from a place on, and zeros behind them.
+pub fn words_are(t: &[u32], s: &[u8], at: usize, entries: usize) -> bool
+    ensures { result ≡ are_words t.now s.now at entries 0 }
+{
+    for i in 0..t.len() {
+        if t[i] as usize != entry_at(s, at, entries, i) {
+            return false;
+        }
+    }
+    true
 }
 
 // Four bytes.
@@ -146,4 +209,32 @@ pub fn ends_at(answer: &[u8], number: u64, end: usize) -> bool
         return answer.len() == end;
     }
     answer.len() == 7
+}
+
+// Whether a stored refusal has these five numbers.
+pub fn is_refusal(answer: &[u8], numbers: &[u64]) -> bool
+    ensures { result ≡ refusal answer.now numbers.now }
+{
+    is_byte(answer, 0, at_or(numbers, 0, 0))
+        && is_byte(answer, 1, at_or(numbers, 1, 0))
+        && is_byte(answer, 2, at_or(numbers, 2, 0))
+        && is_short(answer, 3, at_or(numbers, 3, 0))
+        && is_short(answer, 5, at_or(numbers, 4, 0))
+}
+
+// Whether a call that tells how many entries it made answered so, and with these five numbers.
+pub fn is_told(answer: &[u8], number: u64, numbers: &[u64], count: u64) -> bool
+    ensures { result ≡ (eqb (get_or answer.now 0 0) number && cond (eqb number 0) (counted numbers.now count) (refusal answer.now numbers.now)) }
+{
+    if !is_byte(answer, 0, number) {
+        return false;
+    }
+    if number != 0 {
+        return is_refusal(answer, numbers);
+    }
+    at_or(numbers, 0, 0) == count
+        && at_or(numbers, 1, 0) == 0
+        && at_or(numbers, 2, 0) == 0
+        && at_or(numbers, 3, 0) == 0
+        && at_or(numbers, 4, 0) == 0
 }

@@ -2,101 +2,39 @@
 // floats and tags of each layer included. It prints the number of each case that differs, then the totals.
 #![tactic(auto)]
 
-ghost use Rattle.std.specs.Prelude.{◌≡◌, ◌+◌, ◌≤◌, ◌<◌, length, IfOk, OnOk, ◌++◌, ◌∷◌, [], decimal};
-ghost use Rattle.std.specs.Io.KnownBytes.{Appends};
+ghost use Rattle.std.specs.Prelude.{◌≡◌, ◌+◌, ◌≤◌, ◌<◌, length, IfSome};
 
+use base::{Range, byte_at, part};
 use capi::{mapcss_load, mapcss_styles};
 use std::io;
-use std::io::Write;
+use stdio::cases::{bits_of, ends_at, float_at, is_told, long_at, piece_at, replay, word_at};
 
 // What out holds before.
 const UNSET: u64 = 18446744073709551615;
 
 fn main(rt: HostRuntime) -> io::Result<()> {
-    let mut cases = case_buffer();
-    let n = stdio::read_full(&mut rt.stdin(), &mut cases)?;
-    let mut out = rt.stdout();
-    let t = run_all(&mut out, &cases[..n])?;
-    line(&mut out, b"cases", t.run)?;
-    line(&mut out, b"mismatches", t.bad)
+    replay(&mut rt.stdin(), &mut rt.stdout(), case_at)
 }
 
-fn line<W: Write>(out: &mut W, name: &[u8], n: u64) -> io::Result<()>
-    ensures { OnOk result (Appends (W.contents out.old) (W.contents out.new) (name.now ++ (32 ∷ (decimal n ++ (10 ∷ []))))) }
-{
-    stdio::line(out, name, n)
-}
-
-// Room for all cases.
-fn case_buffer() -> [u8; 524288]
-    ensures { 524288 ≡ length result }
-{
-    [0; 524288]
-}
-
-#[derive(Clone, Copy)]
-struct Tally {
-    run: u64,
-    bad: u64,
-}
-
-fn run_all<W: Write>(out: &mut W, s: &[u8]) -> io::Result<Tally> {
-    let mut at: usize = 0;
-    let mut run: u64 = 0;
-    let mut bad: u64 = 0;
-    while at < s.len() {
-        let t = turn_at(out, s, at, run)?;
-        at = t.next;
-        bad += t.bad;
-        run += 1;
-    }
-    Ok(Tally { run, bad })
-}
-
-// Where the next case starts, and 1 for a mismatch.
-#[derive(Clone, Copy)]
-struct Turn {
-    next: usize,
-    bad: u64,
-}
-
-fn turn_at<W: Write>(out: &mut W, s: &[u8], at: usize, run: u64) -> io::Result<Turn>
+// Where the next case starts, and whether this one agrees; nothing if the file ends in it.
+fn case_at(s: &[u8], at: usize) -> Option<(usize, bool)>
     requires { at < length s.now }
-    ensures { IfOk result (λ t. (at < t.next) × (t.next ≤ length s.now) × (t.bad ≤ 1)) }
+    ensures { IfSome result (λ r. (at < r.0) × (r.0 ≤ length s.now)) }
 {
-    let bundle = at + 2;
-    let settings = bundle + short_at(s, at);
-    let size = settings + 11;
-    let entity = size + 2;
-    let behind = entity + short_at(s, size);
-    if s.len() < behind {
-        return broken(out, s, run);
-    }
-    let answer = behind + 2;
-    let end = answer + short_at(s, behind);
-    if s.len() < end {
-        return broken(out, s, run);
-    }
-    if agrees(
-        &s[bundle..settings],
-        &s[settings..size],
-        &s[entity..behind],
-        &s[answer..end],
-    ) {
-        return Ok(Turn { next: end, bad: 0 });
-    }
-    line(out, b"mismatch in case", run)?;
-    Ok(Turn { next: end, bad: 1 })
-}
-
-fn broken<W: Write>(out: &mut W, s: &[u8], run: u64) -> io::Result<Turn>
-    ensures { IfOk result (λ t. (t.next ≡ length s.now) × (t.bad ≡ 1)) }
-{
-    line(out, b"broken case", run)?;
-    Ok(Turn {
-        next: s.len(),
-        bad: 1,
-    })
+    let bundle = piece_at(s, at)?;
+    let settings = Range {
+        from: bundle.to,
+        to: bundle.to + 11,
+    };
+    let entity = piece_at(s, settings.to)?;
+    let answer = piece_at(s, entity.to)?;
+    let agrees = agrees(
+        part(s, bundle),
+        part(s, settings),
+        part(s, entity),
+        part(s, answer),
+    );
+    Some((answer.to, agrees))
 }
 
 // Whether the bundle loads, and the styler answers as the case says.
@@ -122,7 +60,7 @@ fn agrees(bundle: &[u8], settings: &[u8], entity: &[u8], answer: &[u8]) -> bool 
         return false;
     }
     let font = [float_at(settings, 3); 1];
-    let given = font_length(settings);
+    let given = usize::from(byte_at(settings, 2) == 1);
     styles_as(
         bundle,
         &rules,
@@ -131,21 +69,12 @@ fn agrees(bundle: &[u8], settings: &[u8], entity: &[u8], answer: &[u8]) -> bool 
         &properties,
         &numbers,
         &counts,
-        base::byte_at(settings, 0),
-        base::byte_at(settings, 1),
+        byte_at(settings, 0),
+        byte_at(settings, 1),
         &font[..given],
         entity,
         answer,
     )
-}
-
-fn font_length(settings: &[u8]) -> usize
-    ensures { result ≤ 1 }
-{
-    if base::byte_at(settings, 2) == 1 {
-        return 1;
-    }
-    0
 }
 
 // What is lent holds something else before.
@@ -184,46 +113,11 @@ fn styles_as(
         &mut layers,
         &mut out,
     );
-    if !is_answer(answer, number, out) {
-        return false;
-    }
     let n = layer_count(answer, number);
-    words_are(&words, answer, n)
-        && floats_are(&floats, answer, n)
-        && layers_are(&layers, answer, n)
-        && is_long_as(answer, number, n)
-}
-
-// The number of styles is 0 and is followed by their count; a refusal is its five numbers.
-fn is_answer(answer: &[u8], number: u64, out: [u64; 6]) -> bool {
-    if !is_byte(answer, 0, number) {
-        return false;
-    }
-    if out[5] != UNSET {
-        return false;
-    }
-    if number == 0 {
-        return is_byte(answer, 1, out[0])
-            && out[1] == 0
-            && out[2] == 0
-            && out[3] == 0
-            && out[4] == 0;
-    }
-    out[0] == number
-        && is_byte(answer, 1, out[1])
-        && is_byte(answer, 2, out[2])
-        && is_short(answer, 3, out[3])
-        && is_short(answer, 5, out[4])
-}
-
-// Whether the stored answer ends where its layers do.
-fn is_long_as(answer: &[u8], number: u64, n: usize) -> bool
-    requires { n ≤ 255 }
-{
-    if number == 0 {
-        return answer.len() == 264 * n + 2;
-    }
-    answer.len() == 7
+    is_told(answer, number, &out, n as u64)
+        && out[5] == UNSET
+        && layers_are(&words, &floats, &layers, answer, n)
+        && ends_at(answer, number, 264 * n + 2)
 }
 
 // The stored number of layers; a refusal leaves none.
@@ -231,141 +125,54 @@ fn layer_count(answer: &[u8], number: u64) -> usize
     ensures { result ≤ 255 }
 {
     if number == 0 {
-        return wide(base::byte_at(answer, 1));
+        return usize::from(byte_at(answer, 1));
     }
     0
 }
 
-// Whether the words are those of the stored layers, with zeros behind them.
-fn words_are(t: &[u64; 1664], answer: &[u8], n: usize) -> bool
-    requires { n ≤ 255 }
-{
-    let mut i: usize = 0;
-    while i < 1664 {
-        if t[i] != stored_word(answer, n, i) {
-            return false;
-        }
-        i += 1;
+// Whether the words, floats and tags are those of the stored layers, with zeros behind them.
+fn layers_are(
+    words: &[u64; 1664],
+    floats: &[f64; 192],
+    tags: &[i64; 32],
+    answer: &[u8],
+    n: usize,
+) -> bool {
+    words
+        .chunks_exact(52)
+        .zip(floats.chunks_exact(6))
+        .zip(tags.iter())
+        .enumerate()
+        .all(|(k, ((words, floats), tag))| layer_is(
+            words,
+            floats,
+            *tag,
+            stored_layer(answer, n, k),
+        ))
+}
+
+// The 264 bytes of a layer; none behind the stored ones.
+fn stored_layer(answer: &[u8], n: usize, k: usize) -> &[u8] {
+    if n <= k || answer.len() / 264 < k {
+        return &[];
     }
-    true
+    let from = 264 * k + 2;
+    part(
+        answer,
+        Range {
+            from,
+            to: from + 264,
+        },
+    )
 }
 
-fn stored_word(answer: &[u8], n: usize, i: usize) -> u64
-    requires { n ≤ 255 }
-{
-    if i < 52 * n {
-        return word_at(answer, 264 * (i / 52) + 4 * (i % 52) + 2);
-    }
-    0
-}
-
-// The same for floats: their bits, and all NaN are one.
-fn floats_are(t: &[f64; 192], answer: &[u8], n: usize) -> bool
-    requires { n ≤ 255 }
-{
-    let mut i: usize = 0;
-    while i < 192 {
-        if bits_of(t[i]) != stored_bits(answer, n, i) {
-            return false;
-        }
-        i += 1;
-    }
-    true
-}
-
-fn stored_bits(answer: &[u8], n: usize, i: usize) -> u64
-    requires { n ≤ 255 }
-{
-    if i < 6 * n {
-        return long_at(answer, 264 * (i / 6) + 8 * (i % 6) + 210);
-    }
-    0
-}
-
-// The same for the tags `layer`.
-fn layers_are(t: &[i64; 32], answer: &[u8], n: usize) -> bool
-    requires { n ≤ 255 }
-{
-    let mut i: usize = 0;
-    while i < 32 {
-        if t[i] != stored_layer(answer, n, i) {
-            return false;
-        }
-        i += 1;
-    }
-    true
-}
-
-fn stored_layer(answer: &[u8], n: usize, i: usize) -> i64
-    requires { n ≤ 255 }
-{
-    if i < n {
-        return signed(long_at(answer, 264 * i + 258));
-    }
-    0
-}
-
-// The signed number with these bits.
-fn signed(n: u64) -> i64 {
-    if n < 9223372036854775808 {
-        return n as i64;
-    }
-    -1 - ((18446744073709551615 - n) as i64)
-}
-
-fn bits_of(x: f64) -> u64 {
-    if x == x {
-        return f64::to_bits(x);
-    }
-    0x7ff8_0000_0000_0000
-}
-
-fn wide(b: u8) -> usize
-    ensures { result ≤ 255 }
-{
-    b as usize
-}
-
-// Two bytes, lowest first.
-fn short_at(s: &[u8], at: usize) -> usize
-    requires { at ≤ length s.now + 16777216 }
-    ensures { result ≤ 65535 }
-{
-    wide(base::byte_at(s, at)) + 256 * wide(base::byte_at(s, at + 1))
-}
-
-// Four bytes.
-fn word_at(s: &[u8], at: usize) -> u64
-    requires { at ≤ 1048576 }
-    ensures { result ≤ 4294967295 }
-{
-    (short_at(s, at) + 65536 * short_at(s, at + 2)) as u64
-}
-
-// Eight bytes.
-fn long_at(s: &[u8], at: usize) -> u64
-    requires { at ≤ 524288 }
-{
-    word_at(s, at) + 4294967296 * word_at(s, at + 4)
-}
-
-// The float with the stored bits.
-fn float_at(s: &[u8], at: usize) -> f64
-    requires { at ≤ 524288 }
-{
-    let n = long_at(s, at);
-    if n % 9223372036854775808 <= 0x7ff0_0000_0000_0000 {
-        return f64::from_bits(n);
-    }
-    0.0 / 0.0
-}
-
-fn is_byte(answer: &[u8], i: usize, n: u64) -> bool {
-    wide(base::byte_at(answer, i)) as u64 == n
-}
-
-fn is_short(answer: &[u8], i: usize, n: u64) -> bool
-    requires { i ≤ 16777216 }
-{
-    is_byte(answer, i, n % 256) && is_byte(answer, i + 1, n / 256)
+// Whether a layer has the stored words, floats and tag `layer`: of floats their bits, and all NaN are one.
+fn layer_is(words: &[u64], floats: &[f64], tag: i64, stored: &[u8]) -> bool {
+    words
+        .iter()
+        .enumerate()
+        .all(|(i, &w)| w == word_at(stored, 4 * i) as u64)
+        && floats.iter().enumerate().all(|(i, &x)| bits_of(x)
+            == long_at(stored, 208 + 8 * i) as u64)
+        && tag.cast_unsigned() == long_at(stored, 256) as u64
 }

@@ -4,17 +4,13 @@
 
 ghost use Rattle.std.specs.Prelude.{◌≡◌, ◌+◌, ◌≤◌, ◌<◌, length, IfSome};
 
+use base::part;
 use capi_token::mapcss_next_token;
 use std::io;
-use stdio::cases::{bits_of, case_buffer, is_byte, is_long, is_short, run_all, short_at, totals};
+use stdio::cases::{bits_of, is_byte, is_long, is_short, piece_at, replay};
 
 fn main(rt: HostRuntime) -> io::Result<()> {
-    let mut room = case_buffer();
-    let n = stdio::read_full(&mut rt.stdin(), &mut room)?;
-    let cases = &room[..n];
-    let mut out = rt.stdout();
-    let t = run_all(&mut out, cases.len(), |at| case_at(cases, at))?;
-    totals(&mut out, t)
+    replay(&mut rt.stdin(), &mut rt.stdout(), case_at)
 }
 
 // Where the next case starts, and whether this one agrees; nothing if the file ends in it.
@@ -22,17 +18,9 @@ fn case_at(s: &[u8], at: usize) -> Option<(usize, bool)>
     requires { at < length s.now }
     ensures { IfSome result (λ r. (at < r.0) × (r.0 ≤ length s.now)) }
 {
-    let text = at + 2;
-    let behind = text + short_at(s, at);
-    if s.len() < behind {
-        return None;
-    }
-    let answer = behind + 2;
-    let end = answer + short_at(s, behind);
-    if s.len() < end {
-        return None;
-    }
-    Some((end, agrees(&s[text..behind], &s[answer..end])))
+    let text = piece_at(s, at)?;
+    let answer = piece_at(s, text.to)?;
+    Some((answer.to, agrees(part(s, text), part(s, answer))))
 }
 
 // What a step answered: its kind, the cursor behind it, its line and character, its payload.
@@ -64,39 +52,28 @@ fn step(text: &[u8], at: u64, row: u64, character: u64, newline: u64) -> Answer 
 
 // Whether the tokenizer answers as the sample says, up to the end or the first error.
 fn agrees(text: &[u8], answer: &[u8]) -> bool {
-    let mut i: usize = 0;
+    let mut rest = answer;
     let mut at: u64 = 0;
     let mut row: u64 = 1;
     let mut character: u64 = 0;
     let mut newline: u64 = 0;
-    while i < answer.len() {
+    while !rest.is_empty() {
         let a = step(text, at, row, character, newline);
         let size = size_of(a.kind);
-        if !is_answer(answer, i, a) {
+        if !is_answer(rest, a) {
             return false;
         }
         if a.kind < 2 {
-            return answer.len() - i == size;
+            return rest.len() == size;
         }
         let words = a.words;
         at = words[0];
         row = words[1];
         character = words[2];
         newline = words[3];
-        i = next_place(answer, i, size);
+        rest = &rest[size.min(rest.len())..];
     }
     false
-}
-
-// A place further on, at most the end.
-fn next_place(answer: &[u8], i: usize, size: usize) -> usize
-    requires { (i < length answer.now) × (1 ≤ size) }
-    ensures { (i < result) × (result ≤ length answer.now) }
-{
-    if size < answer.len() - i {
-        return i + size;
-    }
-    answer.len()
 }
 
 // How many bytes the sample has for a kind.
@@ -112,48 +89,46 @@ fn size_of(kind: u64) -> usize
     }
 }
 
-fn is_answer(answer: &[u8], i: usize, a: Answer) -> bool
-    requires { i < length answer.now }
+fn is_answer(answer: &[u8], a: Answer) -> bool
 {
     let words = a.words;
     let kind = a.kind;
-    if !is_byte(answer, i, kind) {
+    if !is_byte(answer, 0, kind) {
         return false;
     }
     match kind {
-        0 => is_short(answer, i + 1, words[1]) && is_short(answer, i + 3, words[2]),
+        0 => is_short(answer, 1, words[1]) && is_short(answer, 3, words[2]),
         1 => {
-            is_byte(answer, i + 1, words[6])
-                && is_short(answer, i + 2, words[7])
-                && is_short(answer, i + 4, words[8])
+            is_byte(answer, 1, words[6])
+                && is_short(answer, 2, words[7])
+                && is_short(answer, 4, words[8])
         }
         _ => {
-            is_short(answer, i + 1, words[4])
-                && is_short(answer, i + 3, words[5])
-                && is_payload(answer, i, a)
+            is_short(answer, 1, words[4])
+                && is_short(answer, 3, words[5])
+                && is_payload(answer, a)
         }
     }
 }
 
-fn is_payload(answer: &[u8], i: usize, a: Answer) -> bool
-    requires { i < length answer.now }
+fn is_payload(answer: &[u8], a: Answer) -> bool
 {
     let words = a.words;
     let kind = a.kind;
     let number = a.number;
     match kind {
-        2 | 3 | 4 | 7 => is_short(answer, i + 5, words[6]) && is_short(answer, i + 7, words[7]),
-        5 => is_long(answer, i + 5, bits_of(number[0])),
+        2 | 3 | 4 | 7 => is_short(answer, 5, words[6]) && is_short(answer, 7, words[7]),
+        5 => is_long(answer, 5, bits_of(number[0])),
         6 => {
-            is_byte(answer, i + 5, words[6])
-                && is_byte(answer, i + 6, words[7])
-                && is_byte(answer, i + 7, words[8])
-                && is_byte(answer, i + 8, words[9])
+            is_byte(answer, 5, words[6])
+                && is_byte(answer, 6, words[7])
+                && is_byte(answer, 7, words[8])
+                && is_byte(answer, 8, words[9])
         }
         8 => {
-            is_byte(answer, i + 5, words[6])
-                && is_byte(answer, i + 6, words[7])
-                && is_byte(answer, i + 7, words[8])
+            is_byte(answer, 5, words[6])
+                && is_byte(answer, 6, words[7])
+                && is_byte(answer, 7, words[8])
         }
         _ => true,
     }
