@@ -17,7 +17,8 @@ use Rattle.valid.specs.Valid.{tables_sound}
 use Rattle.valid.specs.declared.Counts.{Counts}
 use Rattle.cascade.specs.Sort.{sort}
 use Rattle.style.specs.declared.Settings.{Settings}
-use Rattle.order.specs.Keys.{Key, key_le}
+use Rattle.order.specs.declared.Key.{Key}
+use Rattle.order.specs.Keys.{key_le}
 use Rattle.drawing.specs.Gather.{Gathered, stopped, gathered, on-Gathered, gather_of}
 use Rattle.drawing.specs.Lists.{room_of, entries_of, listed, ordered, nodes_of, areas_of}
 use Rattle.drawing.proofs.ListLaws.{length_sort}

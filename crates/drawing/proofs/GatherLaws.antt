@@ -2,17 +2,19 @@
 use Prim.Native.Nat.{ℕ, suc, ◌+◌, ◌-◌, ◌≤◌, ◌<◌}
 use mathlib.Core.Path.{◌≡◌, refl, sym, ◌∙◌, ap}
 use mathlib.Core.Bool.{Bool, true, false}
-use mathlib.Core.List.{List, map}
+use mathlib.Core.List.{List, [], ◌++◌, map}
 use native.Mathlib.Omega.{arith}
 use lib.Dec.{leb, ltb}
 use lib.IntN.{ℤ}
 use lib.Ieee.{Float}
-use lib.ListN.{length, get_or}
-use borrow.Author.Tests.{ltb-false}
+use lib.ListN.{length, get_or, take, drop, length-drop, length-append}
+use lib.Seq.{length-take-le, take-append-add}
+use Rattle.std.proofs.lemmas.List.{take-append-le}
+use borrow.Author.Tests.{ltb-true, ltb-false, lt-ltb, le-ltb}
 use Rattle.base.specs.Bytes.{Bytes}
 use Rattle.base.specs.Choice.{pick, by-test, via, via_with}
 use Rattle.base.specs.Map.{key_of}
-use Rattle.base.specs.Refusal.{of_entity}
+use Rattle.base.specs.Refusal.{refusal, of_entity}
 use Rattle.base.specs.Turns.{Turn, more, done}
 use Rattle.base.specs.declared.refusal.Refusal.{Refusal}
 use Rattle.base.proofs.Loops.{Going, going_start, going_more, going_done}
@@ -24,8 +26,8 @@ use Rattle.entity.specs.Layout.{kind_fits, rising, tags_of, closed_of, tags_at, 
 use Rattle.entity.specs.declared.EntityRange.{EntityRange}
 use Rattle.entity.specs.declared.Sort.{Sort}
 use Rattle.styles.specs.Styles.{styled_rows}
-use Rattle.order.specs.Keys.{Key}
-use Rattle.drawing.specs.Gather.{Gathered, stopped, gathered, on-Gathered, keys_at, told, keys_from, any_nan, keys_in, push, Spot, entity_keys, gather_turn, gather_of}
+use Rattle.order.specs.declared.Key.{Key}
+use Rattle.drawing.specs.Gather.{Gathered, stopped, gathered, on-Gathered, told, keys_from, any_nan, keys_in, push, Spot, entity_keys, gather_turn, gather_of}
 use Rattle.std.specs.Prelude.{Option, Result, Ok, Err, Some, None}
 use Rattle.base.specs.Option.{on_option, on_result}
 use Rattle.base.proofs.Options.{by_option, by_option2}
@@ -159,19 +161,49 @@ next_end sort multipolygons s at place r e =
 
 -- ---- a stream
 
-pub told_stopped :
-    (q : Result ℕ Refusal) (ls : List ℤ) (zs : List Float) (ws : List ℕ) (x : Gathered) (r : Refusal)
-    → told q ls zs ws ≡ x
-    → q ≡ Err r
-    → x ≡ stopped r
-told_stopped q ls zs ws x r e m = sym e ∙ ap (λ (q : Result ℕ Refusal). told q ls zs ws) m
+pub told_stopped : (q : Result ℕ Refusal) (t : List Key) (x : Gathered) (r : Refusal) → told q t ≡ x → q ≡ Err r → x ≡ stopped r
+told_stopped q t x r e m = sym e ∙ ap (λ (q : Result ℕ Refusal). told q t) m
 
-pub told_now :
-    (q : Result ℕ Refusal) (ls : List ℤ) (zs : List Float) (ws : List ℕ) (x : Gathered) (n : ℕ)
-    → told q ls zs ws ≡ x
-    → q ≡ Ok n
-    → x ≡ gathered (keys_at ls zs ws n)
-told_now q ls zs ws x n e m = sym e ∙ ap (λ (q : Result ℕ Refusal). told q ls zs ws) m
+pub told_now : (q : Result ℕ Refusal) (t : List Key) (x : Gathered) (n : ℕ) → told q t ≡ x → q ≡ Ok n → x ≡ gathered (take n t)
+told_now q t x n e m = sym e ∙ ap (λ (q : Result ℕ Refusal). told q t) m
+
+-- keys behind the first m of t, from what is answered of the room that is left
+module _ (t : List Key) (m : ℕ) (h : m ≤ length t) where
+  abbrev after : Gathered → Gathered
+  after x = on-Gathered x stopped (λ xs. gathered (take m t ++ xs))
+
+  push_behind : (g : Gathered) → push (length t) (take m t) g ≡ after (push (length (drop m t)) [] g)
+  unfolding push on-Gathered pick
+  push_behind (stopped r) = refl
+  push_behind (gathered xs) =
+      let l = length-take-le m t h in
+      by-test (ltb (length (drop m t)) (0 + length xs))
+      (λ a.
+      let b : length (drop m t) < 0 + length xs = ltb-true (length (drop m t)) (0 + length xs) a in
+      let c : length t < length (take m t) + length xs = omega (arith, length-drop m t) in
+      rw (a, lt-ltb (length t) (length (take m t) + length xs) c))
+      (λ a.
+      let b : 0 + length xs ≤ length (drop m t) = ltb-false (length (drop m t)) (0 + length xs) a in
+      let c : length (take m t) + length xs ≤ length t = omega (arith, length-drop m t) in
+      rw (a, le-ltb (length t) (length (take m t) + length xs) c))
+
+  pub behind_stopped : (g : Gathered) (r : Refusal) → push (length (drop m t)) [] g ≡ stopped r → push (length t) (take m t) g ≡ stopped r
+  unfolding on-Gathered
+  behind_stopped g r e = push_behind g ∙ ap after e
+
+  pub behind_now :
+      (g : Gathered) (u r : List Key) (k : ℕ)
+      → push (length (drop m t)) [] g ≡ gathered (take k u)
+      → k ≤ length u
+      → push (length t) (take m t) g ≡ gathered (take (m + k) (take m t ++ (u ++ r)))
+  unfolding on-Gathered
+  behind_now g u r k e l =
+      push_behind g
+      ∙ ap after e
+      ∙ ap (λ xs. gathered (take m t ++ xs)) (sym (take-append-le k u r l))
+      ∙ ap gathered
+      (sym (take-append-add (take m t) (u ++ r) k)
+      ∙ ap (λ n. take (n + k) (take m t ++ (u ++ r))) (length-take-le m t h))
 
 abbrev spot : ℕ → ℕ → List Key → Spot
 spot at place ks = record { at = at; place = place; keys = ks }
