@@ -167,33 +167,39 @@ told_stopped q t x r e m = sym e ∙ ap (λ (q : Result ℕ Refusal). told q t) 
 pub told_now : (q : Result ℕ Refusal) (t : List Key) (x : Gathered) (n : ℕ) → told q t ≡ x → q ≡ Ok n → x ≡ gathered (take n t)
 told_now q t x n e m = sym e ∙ ap (λ (q : Result ℕ Refusal). told q t) m
 
--- keys behind the first m of t, from what is answered of the room that is left
+-- keys behind the first m of t, from what is answered of the part behind them
 module _ (t : List Key) (m : ℕ) (h : m ≤ length t) where
+  abbrev part : List Key
+  part = take (length t - m) (drop m t)
+
+  pub part_length : m + length part ≡ length t
+  part_length = omega (arith, length-drop m t, length-take-le (length t - m) (drop m t) (rw (length-drop m t) (omega arith)))
+
   abbrev after : Gathered → Gathered
   after x = on-Gathered x stopped (λ xs. gathered (take m t ++ xs))
 
-  push_behind : (g : Gathered) → push (length t) (take m t) g ≡ after (push (length (drop m t)) [] g)
+  push_behind : (g : Gathered) → push (length t) (take m t) g ≡ after (push (length part) [] g)
   unfolding push on-Gathered pick
   push_behind (stopped r) = refl
   push_behind (gathered xs) =
       let l = length-take-le m t h in
-      by-test (ltb (length (drop m t)) (0 + length xs))
+      by-test (ltb (length part) (0 + length xs))
       (λ a.
-      let b : length (drop m t) < 0 + length xs = ltb-true (length (drop m t)) (0 + length xs) a in
-      let c : length t < length (take m t) + length xs = omega (arith, length-drop m t) in
+      let b : length part < 0 + length xs = ltb-true (length part) (0 + length xs) a in
+      let c : length t < length (take m t) + length xs = omega (arith, part_length) in
       rw (a, lt-ltb (length t) (length (take m t) + length xs) c))
       (λ a.
-      let b : 0 + length xs ≤ length (drop m t) = ltb-false (length (drop m t)) (0 + length xs) a in
-      let c : length (take m t) + length xs ≤ length t = omega (arith, length-drop m t) in
+      let b : 0 + length xs ≤ length part = ltb-false (length part) (0 + length xs) a in
+      let c : length (take m t) + length xs ≤ length t = omega (arith, part_length) in
       rw (a, le-ltb (length t) (length (take m t) + length xs) c))
 
-  pub behind_stopped : (g : Gathered) (r : Refusal) → push (length (drop m t)) [] g ≡ stopped r → push (length t) (take m t) g ≡ stopped r
+  pub behind_stopped : (g : Gathered) (r : Refusal) → push (length part) [] g ≡ stopped r → push (length t) (take m t) g ≡ stopped r
   unfolding on-Gathered
   behind_stopped g r e = push_behind g ∙ ap after e
 
   pub behind_now :
       (g : Gathered) (u r : List Key) (k : ℕ)
-      → push (length (drop m t)) [] g ≡ gathered (take k u)
+      → push (length part) [] g ≡ gathered (take k u)
       → k ≤ length u
       → push (length t) (take m t) g ≡ gathered (take (m + k) (take m t ++ (u ++ r)))
   unfolding on-Gathered

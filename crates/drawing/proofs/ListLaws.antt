@@ -2,11 +2,11 @@
 use Prim.Native.Nat.{ℕ, zero, suc, ◌+◌, ◌-◌, ◌*◌, ◌%◌, ◌/◌, ◌≤◌, ◌<◌}
 use mathlib.Core.Path.{◌≡◌, refl, sym, ◌∙◌, ap, ap₂}
 use mathlib.Core.Bool.{Bool}
-use mathlib.Core.List.{List, [], ◌∷◌, ◌++◌, map, map-map, map-append, append_assoc}
+use mathlib.Core.List.{List, [], ◌∷◌, ◌++◌, map, map-map, map-append, append-nil}
 use native.Mathlib.Omega.{arith}
 use native.Mathlib.Numerals.{add-one}
 use native.Mathlib.Nat.{add-zero}
-use lib.ListN.{length, take, drop, get_or, set, replicate, length-append, length-map, take-append-drop, length-drop}
+use lib.ListN.{length, take, drop, get_or, set, replicate, length-append, length-map, drop_of_length-le, length-drop}
 use lib.Seq.{take-suc, drop-cons, set_at, append_snoc, length-take-le, take_at, drop_at, take_all}
 use Rattle.base.specs.Choice.{by-test}
 use Rattle.base.specs.Table.{padded, flat}
@@ -104,22 +104,28 @@ length_sort le (x ∷ xs) = length_place le x (sort le xs) ∙ ap suc (length_so
 
 -- two counts, each into its part: ys and zs come back from the calls
 pub counted :
-    (t ys zs r : List ℕ) (ways : ℕ)
+    (t ys zs : List ℕ) (ways : ℕ)
     → ways ≤ length t
     → ys ≡ places ways (length (take (length t - ways) t))
-    → zs ≡ places 0 (length (drop (length t - ways) (ys ++ drop (length t - ways) t)))
-    → take (length t - ways) (ys ++ drop (length t - ways) t) ++ (zs ++ r)
-    ≡ (places ways (length t - ways) ++ places 0 ways) ++ r
-counted t ys zs r ways h e f =
+    → zs
+    ≡ places 0
+    (length
+    (take (length (ys ++ drop (length t - ways) t) - (length t - ways))
+    (drop (length t - ways) (ys ++ drop (length t - ways) t))))
+    → take (length t - ways) (ys ++ drop (length t - ways) t)
+    ++ (zs
+    ++ drop (length (ys ++ drop (length t - ways) t) - (length t - ways)) (drop (length t - ways) (ys ++ drop (length t - ways) t)))
+    ≡ places ways (length t - ways) ++ places 0 ways
+counted t ys zs ways h e f =
     let k = length t - ways in
-    let a : length (take k t) ≡ k = length-take-le k t (omega arith) in
-    let y : ys ≡ places ways k = e ∙ ap (places ways) a in
+    let y : ys ≡ places ways k = e ∙ ap (places ways) (length-take-le k t (omega arith)) in
     let l : length ys ≡ k = ap length y ∙ length_places ways k in
     let b : drop k (ys ++ drop k t) ≡ drop k t = drop_at ys (drop k t) k l in
     let z : length (drop k t) ≡ ways = length-drop k t ∙ omega arith in
-    ap (λ l. l ++ (zs ++ r)) (take_at ys (drop k t) k l ∙ y)
-    ∙ ap (λ l. places ways k ++ (l ++ r)) (f ∙ ap (places 0) (ap length b ∙ z))
-    ∙ sym (append_assoc (places ways k) (places 0 ways) r)
+    let n : length (ys ++ drop k t) - k ≡ length (drop k t) = omega (arith, length-append ys (drop k t)) in
+    let w : zs ≡ places 0 ways = f ∙ ap (places 0) (rw (b, n, take_all (length (drop k t)) (drop k t) (omega arith)) z) in
+    rw (b, n, drop_of_length-le (drop k t) (omega arith), take_at ys (drop k t) k l, y, w)
+    (ap (λ l. places ways k ++ l) (append-nil (places 0 ways)))
 
 -- the keys of consecutive numbers
 keys_places : (keys : List Key) (a k : ℕ) → a + k ≤ length keys → map (key_at keys) (places a k) ≡ take k (drop a keys)

@@ -26,21 +26,7 @@ fn push_entity(
     ensures keys_after { told result keys.new ≡ push (length keys.old) [] (entity_keys tables.now.bundle.now tables.now.rules.now tables.now.selectors.now tables.now.tests.now tables.now.properties.now tables.now.numbers.now total zoom for_labels multipolygons s.now e place) }
     ensures IsBounded { IsBounded (length keys.old) result }
 {
-    let m = walk_entity(
-        tables.bundle,
-        tables.rules,
-        tables.selectors,
-        tables.tests,
-        tables.properties,
-        tables.numbers,
-        total,
-        zoom,
-        s,
-        e,
-        multipolygons,
-        place,
-        maps,
-    )?;
+    let m = walk_entity(tables, total, zoom, s, e, multipolygons, place, maps)?;
     if any_nan(tables, maps, m, e.kind) {
         return Err(Refusal::of_entity(NAN_Z_INDEX, multipolygons, place));
     }

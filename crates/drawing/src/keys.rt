@@ -28,8 +28,8 @@ fn put_key(
     ensures { key.new ≡ key_of tables.now.bundle.now tables.now.properties.now tables.now.numbers.now for_labels multipolygons place e.kind e.id layer maps.now k i }
 {
     key.layer = layer_rank(layer);
-    key.fill = fill_rank(for_labels, is_foreground_fill(tables.bundle, tables.properties, tables.numbers, row_of(maps, i)));
-    key.z_index = z_index(tables.bundle, tables.properties, tables.numbers, row_of(maps, i), e.kind);
+    key.fill = fill_rank(for_labels, is_foreground_fill(tables, row_of(maps, i)));
+    key.z_index = z_index(tables, row_of(maps, i), e.kind);
     key.id = e.id;
     key.stream = stream_rank(multipolygons);
     key.place = place as u64;
@@ -73,7 +73,7 @@ pub fn any_nan(tables: &Tables, maps: &[u32; 4323], m: usize, kind: u8) -> bool
         if is_layer(tables.bundle, tables.selectors, word_at(&maps[..], i * 131), b"*") {
             continue;
         }
-        let z = z_index(tables.bundle, tables.properties, tables.numbers, row_of(maps, i), kind);
+        let z = z_index(tables, row_of(maps, i), kind);
         if z != z {
             return true;
         }

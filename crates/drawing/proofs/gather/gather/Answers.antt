@@ -1,10 +1,11 @@
 use mathlib.Core.Path.{refl, sym, ◌∙◌, subst}
+use Prim.Native.Nat.{◌-◌}
 use native.Mathlib.Omega.{arith}
 use lib.ListN.{length, take, drop}
 use Rattle.base.proofs.Options.{handed_on, ok_is}
 use Rattle.base.specs.Choice.{via}
 use Rattle.drawing.specs.Gather.{IsBounded}
-use Rattle.drawing.proofs.GatherLaws.{next_end, told_stopped, told_now, behind_stopped, behind_now, gather_start, gather_bad, gather_end, gather_stopped, gather_more}
+use Rattle.drawing.proofs.GatherLaws.{next_end, told_stopped, told_now, part_length, behind_stopped, behind_now, gather_start, gather_bad, gather_end, gather_stopped, gather_more}
 use Rattle.drawing.proofs.gather.gather.Goals as goal
 
 pub loop-e-init : goal.loop-e-init
@@ -53,7 +54,7 @@ pub loop-e-preserved : goal.loop-e-preserved
 loop-e-preserved c = let a = c.args in let t = a.tables.now in let l = c.loop-e in
     let h = next_end a.sort a.multipolygons a.s.now l.at l.place _
     (via c.next_entity.ensures (ok_is c.in_ok-e.was c.in-Some.is)) in
-    let b = subst (IsBounded (length (drop l.m l.keys))) c.in_ok-m.was c.push_entity.ensures.IsBounded in (
+    let b = subst (IsBounded (length (take (length l.keys - l.m) (drop l.m l.keys)))) c.in_ok-m.was c.push_entity.ensures.IsBounded in (
       ?,
       ?,
       omega (arith, h.0, l.invariant.2),
