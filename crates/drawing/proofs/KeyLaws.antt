@@ -1,33 +1,30 @@
 -- Laws of keys, one for each way through the code, over plain lists and numbers.
-use Prim.Native.Nat.{ℕ, zero, suc, ◌+◌, ◌-◌, ◌*◌, ◌≤◌, ◌<◌}
+use Prim.Native.Nat.{ℕ, suc, ◌+◌, ◌-◌, ◌*◌, ◌≤◌, ◌<◌}
 use mathlib.Core.Path.{◌≡◌, refl, sym, ◌∙◌, ap, subst}
 use mathlib.Core.Bool.{Bool, true, false, not}
-use mathlib.Core.List.{List, [], ◌∷◌, ◌++◌, map, append_assoc, append-nil}
+use mathlib.Core.List.{List, [], ◌∷◌, ◌++◌, append-nil}
 use native.Mathlib.Omega.{arith}
 use lib.Dec.{T}
-use lib.IntN.{ℤ, pos}
+use lib.IntN.{ℤ}
 use lib.Ieee.{Float, nan, inf, fin, ne, eq, is_nan}
 use lib.Ieee.Compare.{differs_from_itself}
-use lib.ListN.{length, take, drop, get_or, set, length-append, get_or-append}
+use lib.ListN.{length, take, get_or, set, length-append}
 use lib.Seq.{append_snoc, take-suc-set}
 use native.Mathlib.Numerals.{add-one}
 use borrow.Author.Tests.{lt-ltb, le-ltb}
 use Rattle.base.specs.Bytes.{Bytes, same}
 use Rattle.base.specs.Choice.{pick, clash}
 use Rattle.base.specs.Refusal.{refusal}
-use Rattle.base.specs.Table.{zero_float}
 use Rattle.base.specs.declared.refusal.Refusal.{Refusal}
 use Rattle.cascade.specs.Clause.{star}
 use Rattle.cascade.specs.Map.{keep}
 use Rattle.decode.specs.Decode.{places}
-use Rattle.decode.proofs.Entries.{places_next}
 use Rattle.walk.specs.Rows.{numbers_at}
 use Rattle.walk.specs.Selectors.{layer_in}
-use Rattle.style.specs.Style.{z_index_in, foreground_in}
+use Rattle.style.specs.Style.{z_index_in}
 use Rattle.styles.specs.Styles.{styled_rows}
 use Rattle.order.specs.declared.Key.{Key}
-use Rattle.order.specs.Keys.{key_at}
-use Rattle.drawing.specs.Gather.{Gathered, stopped, gathered, layer_rank, fill_rank, stream_rank, z_of, key_of, keys_from, any_nan, push}
+use Rattle.drawing.specs.Gather.{Gathered, stopped, gathered, z_of, key_of, keys_from, any_nan, push}
 use Rattle.std.specs.Prelude.{Option}
 
 -- ---- the rows of the layers that are left

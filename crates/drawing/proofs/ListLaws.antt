@@ -1,12 +1,11 @@
 -- Laws of the list, one for each way through the code: places counted, entries written, and numbers sorted by their keys.
-use Prim.Native.Nat.{ℕ, zero, suc, ◌+◌, ◌-◌, ◌*◌, ◌%◌, ◌/◌, ◌≤◌, ◌<◌}
+use Prim.Native.Nat.{ℕ, zero, suc, ◌+◌, ◌-◌, ◌*◌, ◌≤◌, ◌<◌}
 use mathlib.Core.Path.{◌≡◌, refl, sym, ◌∙◌, ap, ap₂}
 use mathlib.Core.Bool.{Bool}
 use mathlib.Core.List.{List, [], ◌∷◌, ◌++◌, map, map-map, map-append, append-nil}
 use native.Mathlib.Omega.{arith}
 use native.Mathlib.Numerals.{add-one}
-use native.Mathlib.Nat.{add-zero}
-use lib.ListN.{length, take, drop, get_or, set, replicate, length-append, length-map, drop_of_length-le, length-drop}
+use lib.ListN.{length, take, drop, get_or, set, replicate, length-append, drop_of_length-le, length-drop}
 use lib.Seq.{take-suc, drop-cons, set_at, append_snoc, length-take-le, take_at, drop_at, take_all}
 use Rattle.base.specs.Choice.{by-test}
 use Rattle.base.specs.Table.{padded, flat}
@@ -17,7 +16,7 @@ use Rattle.decode.specs.Decode.{places}
 use Rattle.table.specs.Value.{word}
 use Rattle.order.specs.declared.Key.{Key}
 use Rattle.order.specs.Keys.{zero_key, key_at, key_le, number_le}
-use Rattle.drawing.specs.Lists.{room_of, entry_words, entry_at, entries_of}
+use Rattle.drawing.specs.Lists.{entry_words, entry_at, entries_of}
 
 -- ---- places
 
@@ -123,8 +122,9 @@ counted t ys zs ways h e f =
     let b : drop k (ys ++ drop k t) ≡ drop k t = drop_at ys (drop k t) k l in
     let z : length (drop k t) ≡ ways = length-drop k t ∙ omega arith in
     let n : length (ys ++ drop k t) - k ≡ length (drop k t) = omega (arith, length-append ys (drop k t)) in
-    let w : zs ≡ places 0 ways = f ∙ ap (places 0) (rw (b, n, take_all (length (drop k t)) (drop k t) (omega arith)) z) in
-    rw (b, n, drop_of_length-le (drop k t) (omega arith), take_at ys (drop k t) k l, y, w)
+    let q : length (drop k t) ≤ length (drop k t) = omega arith in
+    let w : zs ≡ places 0 ways = f ∙ ap (places 0) (rw (b, n, take_all (length (drop k t)) (drop k t) q) z) in
+    rw (b, n, drop_of_length-le (drop k t) q, take_at ys (drop k t) k l, y, w)
     (ap (λ l. places ways k ++ l) (append-nil (places 0 ways)))
 
 -- the keys of consecutive numbers

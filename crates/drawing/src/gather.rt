@@ -30,7 +30,17 @@ fn push_entity(
     if any_nan(tables, maps, m, e.kind) {
         return Err(Refusal::of_entity(NAN_Z_INDEX, multipolygons, place));
     }
-    push_layers(tables, for_labels, multipolygons, place, e, tag_layer(s, e), maps, m, keys)
+    push_layers(
+        tables,
+        for_labels,
+        multipolygons,
+        place,
+        e,
+        tag_layer(s, e),
+        maps,
+        m,
+        keys,
+    )
 }
 
 // Stores the keys of a stream behind the first n, and says how many there are then.
@@ -54,7 +64,18 @@ pub fn gather(
     let mut at: usize = 0;
     let mut place: usize = 0;
     while let Some(e) = next_entity(s, sort, multipolygons, at, place)? {
-        m += push_entity(tables, total, zoom, for_labels, multipolygons, s, e, place, &mut maps, &mut keys[m..])?;
+        m += push_entity(
+            tables,
+            total,
+            zoom,
+            for_labels,
+            multipolygons,
+            s,
+            e,
+            place,
+            &mut maps,
+            &mut keys[m..],
+        )?;
         at = e.end;
         place += 1;
     }

@@ -70,7 +70,12 @@ pub fn any_nan(tables: &Tables, maps: &[u32; 4323], m: usize, kind: u8) -> bool
     ensures { result ≡ any_nan tables.now.bundle.now tables.now.properties.now tables.now.numbers.now maps.now kind (styled_rows tables.now.bundle.now tables.now.selectors.now maps.now m) }
 {
     for i in 0..m {
-        if is_layer(tables.bundle, tables.selectors, word_at(&maps[..], i * 131), b"*") {
+        if is_layer(
+            tables.bundle,
+            tables.selectors,
+            word_at(&maps[..], i * 131),
+            b"*",
+        ) {
             continue;
         }
         let z = z_index(tables, row_of(maps, i), kind);
@@ -99,13 +104,29 @@ pub fn push_layers(
 {
     let mut k: usize = 0;
     for i in 0..m {
-        if is_layer(tables.bundle, tables.selectors, word_at(&maps[..], i * 131), b"*") {
+        if is_layer(
+            tables.bundle,
+            tables.selectors,
+            word_at(&maps[..], i * 131),
+            b"*",
+        ) {
             continue;
         }
         if keys.len() <= k {
             return Err(Refusal::plain(DRAW_LIST_FULL));
         }
-        put_key(tables, for_labels, multipolygons, place, e, layer, maps, k, i, &mut keys[k]);
+        put_key(
+            tables,
+            for_labels,
+            multipolygons,
+            place,
+            e,
+            layer,
+            maps,
+            k,
+            i,
+            &mut keys[k],
+        );
         k += 1;
     }
     Ok(k)

@@ -36,7 +36,17 @@ pub fn style_entities(
     }
     let mut keys = [ZERO_KEY; 4096];
     let free = &mut keys[..room_of(list.len())];
-    let k = gather(tables, n.rules, zoom, settings.for_labels, Sort::Nodes, false, nodes, free, 0)?;
+    let k = gather(
+        tables,
+        n.rules,
+        zoom,
+        settings.for_labels,
+        Sort::Nodes,
+        false,
+        nodes,
+        free,
+        0,
+    )?;
     write_list(&free[..k], 0, list);
     Ok(k)
 }
@@ -59,8 +69,28 @@ pub fn style_areas(
     }
     let mut keys = [ZERO_KEY; 4096];
     let free = &mut keys[..room_of(list.len())];
-    let w = gather(tables, n.rules, zoom, settings.for_labels, Sort::Areas, false, ways, free, 0)?;
-    let k = gather(tables, n.rules, zoom, settings.for_labels, Sort::Areas, true, multipolygons, free, w)?;
+    let w = gather(
+        tables,
+        n.rules,
+        zoom,
+        settings.for_labels,
+        Sort::Areas,
+        false,
+        ways,
+        free,
+        0,
+    )?;
+    let k = gather(
+        tables,
+        n.rules,
+        zoom,
+        settings.for_labels,
+        Sort::Areas,
+        true,
+        multipolygons,
+        free,
+        w,
+    )?;
     write_list(&free[..k], w, list);
     Ok(k)
 }
@@ -69,7 +99,15 @@ pub fn style_areas(
 fn are_sound(tables: &Tables, n: Counts) -> bool
     ensures { result ≡ tables_sound tables.now.rules.now tables.now.selectors.now tables.now.tests.now tables.now.properties.now tables.now.numbers.now n (length tables.now.bundle.now) }
 {
-    is_sound(tables.rules, tables.selectors, tables.tests, tables.properties, tables.numbers, n, tables.bundle.len())
+    is_sound(
+        tables.rules,
+        tables.selectors,
+        tables.tests,
+        tables.properties,
+        tables.numbers,
+        n,
+        tables.bundle.len(),
+    )
 }
 
 // The entries that a list of so many words takes.

@@ -2,6 +2,7 @@ use mathlib.Core.Path.{refl, sym, ◌∙◌, subst}
 use Prim.Native.Nat.{◌-◌}
 use native.Mathlib.Omega.{arith}
 use lib.ListN.{length, take, drop}
+use borrow.Rule.Slice.PartMut.{same_len_mid}
 use Rattle.base.proofs.Options.{handed_on, ok_is}
 use Rattle.base.specs.Choice.{via}
 use Rattle.drawing.specs.Gather.{IsBounded}
@@ -54,9 +55,10 @@ pub loop-e-preserved : goal.loop-e-preserved
 loop-e-preserved c = let a = c.args in let t = a.tables.now in let l = c.loop-e in
     let h = next_end a.sort a.multipolygons a.s.now l.at l.place _
     (via c.next_entity.ensures (ok_is c.in_ok-e.was c.in-Some.is)) in
-    let b = subst (IsBounded (length (take (length l.keys - l.m) (drop l.m l.keys)))) c.in_ok-m.was c.push_entity.ensures.IsBounded in (
-      ?,
-      ?,
+    let b = subst (IsBounded (length (take (length l.keys - l.m) (drop l.m l.keys)))) c.in_ok-m.was c.push_entity.ensures.IsBounded in
+    let same = same_len_mid l.m (length l.keys - l.m) l.keys c.push_entity.new.keys c.push_entity.auto.keys in (
+      same ∙ l.invariant.0,
+      omega (arith, b, same, part_length l.keys l.m l.invariant.1),
       omega (arith, h.0, l.invariant.2),
       h.1,
       gather_more t.bundle.now t.rules.now t.selectors.now t.tests.now t.properties.now t.numbers.now a.total a.zoom
@@ -65,5 +67,5 @@ loop-e-preserved c = let a = c.args in let t = a.tables.now in let l = c.loop-e 
           (ok_is c.in_ok-e.was c.in-Some.is) _
           (rw (sym l.invariant.0)
           (behind_now l.keys l.m l.invariant.1 _ c.push_entity.new.keys _ _
-          (told_now _ _ _ _ c.push_entity.ensures.keys_after c.in_ok-m.was) ?)),
+          (told_now _ _ _ _ c.push_entity.ensures.keys_after c.in_ok-m.was) (omega (arith, b, c.push_entity.auto.keys)))),
     )
