@@ -32,6 +32,7 @@ fn count(order: &mut [u32], ways: usize)
 }
 
 // Stores the numbers from `from` on.
+#[tactic(auto, unfolding(decode::specs::Decode::places))]
 fn count_from(order: &mut [u32], from: usize)
     requires { from + length order.old ≤ 4096 }
     ensures { order.new ≡ places from (length order.old) }

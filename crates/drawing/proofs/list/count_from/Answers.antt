@@ -1,14 +1,9 @@
 use Prim.Native.Nat.{◌+◌}
-use mathlib.Core.Path.{refl, ◌∙◌, ap}
+use mathlib.Core.Path.{◌∙◌, ap}
 use native.Mathlib.Omega.{arith}
 use lib.ListN.{set}
-use Rattle.decode.specs.Decode.{places}
 use Rattle.drawing.proofs.ListLaws.{count_more}
 use Rattle.drawing.proofs.list.count_from.Goals as goal
-
-pub loop-i-init : goal.loop-i-init
-unfolding places
-loop-i-init c = refl
 
 pub loop-i-preserved : goal.loop-i-preserved
 loop-i-preserved c = let l = c.loop-i in
