@@ -8,94 +8,59 @@ ghost use Rattle.canvas.specs.Canvas.{shade_of, color_at, first_color, any_canva
 use base::refusal::{Refusal, TABLE_BROKEN};
 use color::Color;
 use style::StyleType;
-use table::{PropertyValue, word_of};
+use table::{PropertyValue, Tables, word_of};
 use valid::{Counts, is_sound};
 
 // The canvas colour: 22 is the only refusal. proofs/Shown.antt restates the promise on rules.
 pub fn canvas_fill_color(
-    bundle: &[u8],
-    rules: &[u32],
-    selectors: &[u32],
-    tests: &[u32],
-    properties: &[u32],
-    numbers: &[f64],
+    tables: &Tables,
     n: Counts,
     style_type: StyleType,
 ) -> Result<Option<Color>, Refusal>
-    ensures { result ≡ canvas_of bundle.now rules.now selectors.now tests.now properties.now numbers.now n style_type }
+    ensures { result ≡ canvas_of tables.now.bundle.now tables.now.rules.now tables.now.selectors.now tables.now.tests.now tables.now.properties.now tables.now.numbers.now n style_type }
 {
     if !is_sound(
-        rules,
-        selectors,
-        tests,
-        properties,
-        numbers,
+        tables.rules,
+        tables.selectors,
+        tables.tests,
+        tables.properties,
+        tables.numbers,
         n,
-        bundle.len(),
+        tables.bundle.len(),
     ) {
         return Err(Refusal::plain(TABLE_BROKEN));
     }
     match style_type {
-        StyleType::Josm => Ok(rules_color(
-            bundle,
-            rules,
-            selectors,
-            properties,
-            numbers,
-            b"fill-color",
-            n.rules,
-        )),
-        StyleType::MapsMe => Ok(rules_color(
-            bundle,
-            rules,
-            selectors,
-            properties,
-            numbers,
-            b"background-color",
-            n.rules,
-        )),
+        StyleType::Josm => Ok(rules_color(tables, b"fill-color", n.rules)),
+        StyleType::MapsMe => Ok(rules_color(tables, b"background-color", n.rules)),
     }
 }
 
 // The first `total` rules, in order.
-fn rules_color(
-    bundle: &[u8],
-    rules: &[u32],
-    selectors: &[u32],
-    properties: &[u32],
-    numbers: &[f64],
-    name: &[u8],
-    total: usize,
-) -> Option<Color>
-    ensures { result ≡ rules_color bundle.now rules.now selectors.now properties.now numbers.now name.now (places 0 total) }
+fn rules_color(tables: &Tables, name: &[u8], total: usize) -> Option<Color>
+    ensures { result ≡ rules_color tables.now.bundle.now tables.now.rules.now tables.now.selectors.now tables.now.properties.now tables.now.numbers.now name.now (places 0 total) }
 {
     for r in 0..total {
-        if let Some(c) = rule_color(bundle, rules, selectors, properties, numbers, name, r) {
+        if let Some(c) = rule_color(tables, name, r) {
             return Some(c);
         }
     }
     None
 }
 
-fn rule_color(
-    bundle: &[u8],
-    rules: &[u32],
-    selectors: &[u32],
-    properties: &[u32],
-    numbers: &[f64],
-    name: &[u8],
-    r: usize,
-) -> Option<Color>
-    ensures { result ≡ rule_color bundle.now rules.now selectors.now properties.now numbers.now name.now r }
+fn rule_color(tables: &Tables, name: &[u8], r: usize) -> Option<Color>
+    ensures { result ≡ rule_color tables.now.bundle.now tables.now.rules.now tables.now.selectors.now tables.now.properties.now tables.now.numbers.now name.now r }
 {
-    if any_canvas(selectors, word_of(rules, r, 1), word_of(rules, r, 2)) {
+    if any_canvas(
+        tables.selectors,
+        word_of(tables.rules, r, 1),
+        word_of(tables.rules, r, 2),
+    ) {
         return first_color(
-            bundle,
-            properties,
-            numbers,
+            tables,
             name,
-            word_of(rules, r, 3),
-            word_of(rules, r, 4),
+            word_of(tables.rules, r, 3),
+            word_of(tables.rules, r, 4),
         );
     }
     None
@@ -114,18 +79,11 @@ fn any_canvas(selectors: &[u32], from: usize, to: usize) -> bool
 }
 
 // The first colour value of this name among the properties from..to.
-fn first_color(
-    bundle: &[u8],
-    properties: &[u32],
-    numbers: &[f64],
-    name: &[u8],
-    from: usize,
-    to: usize,
-) -> Option<Color>
-    ensures { result ≡ first_color bundle.now properties.now numbers.now name.now (places from (to - from)) }
+fn first_color(tables: &Tables, name: &[u8], from: usize, to: usize) -> Option<Color>
+    ensures { result ≡ first_color tables.now.bundle.now tables.now.properties.now tables.now.numbers.now name.now (places from (to - from)) }
 {
     for p in from..to {
-        if let Some(c) = color_at(bundle, properties, numbers, name, p) {
+        if let Some(c) = color_at(tables, name, p) {
             return Some(c);
         }
     }
@@ -133,24 +91,18 @@ fn first_color(
 }
 
 // The colour value of property p, if it has this name.
-fn color_at(
-    bundle: &[u8],
-    properties: &[u32],
-    numbers: &[f64],
-    name: &[u8],
-    p: usize,
-) -> Option<Color>
-    ensures { result ≡ color_at bundle.now properties.now numbers.now name.now p }
+fn color_at(tables: &Tables, name: &[u8], p: usize) -> Option<Color>
+    ensures { result ≡ color_at tables.now.bundle.now tables.now.properties.now tables.now.numbers.now name.now p }
 {
     let named = base::part(
-        bundle,
+        tables.bundle,
         base::Range {
-            from: word_of(properties, p, 1),
-            to: word_of(properties, p, 2),
+            from: word_of(tables.properties, p, 1),
+            to: word_of(tables.properties, p, 2),
         },
     );
     if base::same_bytes(named, name) {
-        return shade_of(table::property_value(properties, numbers, p));
+        return shade_of(table::property_value(tables.properties, tables.numbers, p));
     }
     None
 }

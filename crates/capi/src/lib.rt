@@ -39,6 +39,7 @@ use canvas::canvas_fill_color;
 use parser::load;
 use settings::{counts_at, settings_of, type_of};
 use style_rows::store_layers;
+use table::Tables;
 use walk::property_maps;
 
 pub fn mapcss_load(
@@ -73,10 +74,16 @@ pub fn mapcss_property_maps(
 ) -> u64
     ensures { MapsAnswered (maps_of bundle.now rules.now selectors.now tests.now properties.now numbers.now (counts_at counts.now) zoom entity.now) result maps.new out.old out.new }
 {
+    let tables = Tables {
+        bundle,
+        rules,
+        selectors,
+        tests,
+        properties,
+        numbers,
+    };
     let n = counts_at(counts);
-    let told = told_maps(property_maps(
-        bundle, rules, selectors, tests, properties, numbers, n, zoom, entity, maps,
-    ));
+    let told = told_maps(property_maps(&tables, n, zoom, entity, maps));
     store_five(out, told);
     told.kind
 }
@@ -100,13 +107,16 @@ pub fn mapcss_styles(
 ) -> u64
     ensures { StylesAnswered (styles_of bundle.now rules.now selectors.now tests.now properties.now numbers.now (counts_at counts.now) zoom (settings_of style_type font.now false) entity.now) result words.new floats.new layers.new out.old out.new }
 {
-    let x = styles::entity_styles(
+    let tables = Tables {
         bundle,
         rules,
         selectors,
         tests,
         properties,
         numbers,
+    };
+    let x = styles::entity_styles(
+        &tables,
         counts_at(counts),
         zoom,
         settings_of(style_type, font, false),
@@ -133,13 +143,16 @@ pub fn mapcss_canvas_color(
 ) -> u64
     ensures { Told (told_canvas (canvas_of bundle.now rules.now selectors.now tests.now properties.now numbers.now (counts_at counts.now) (type_of style_type))) result out.old out.new }
 {
-    let five = told_canvas(canvas_fill_color(
+    let tables = Tables {
         bundle,
         rules,
         selectors,
         tests,
         properties,
         numbers,
+    };
+    let five = told_canvas(canvas_fill_color(
+        &tables,
         counts_at(counts),
         type_of(style_type),
     ));
@@ -165,13 +178,16 @@ pub fn mapcss_style_entities(
 ) -> u64
     ensures { ListAnswered (nodes_of bundle.now rules.now selectors.now tests.now properties.now numbers.now (counts_at counts.now) zoom (settings_of style_type font.now for_labels) (length list.old) nodes.now) result list.new out.old out.new }
 {
-    let five = told_list(drawing::style_entities(
+    let tables = Tables {
         bundle,
         rules,
         selectors,
         tests,
         properties,
         numbers,
+    };
+    let five = told_list(drawing::style_entities(
+        &tables,
         counts_at(counts),
         zoom,
         settings_of(style_type, font, for_labels),
@@ -201,13 +217,16 @@ pub fn mapcss_style_areas(
 ) -> u64
     ensures { ListAnswered (areas_of bundle.now rules.now selectors.now tests.now properties.now numbers.now (counts_at counts.now) zoom (settings_of style_type font.now for_labels) (length list.old) ways.now multipolygons.now) result list.new out.old out.new }
 {
-    let five = told_list(drawing::style_areas(
+    let tables = Tables {
         bundle,
         rules,
         selectors,
         tests,
         properties,
         numbers,
+    };
+    let five = told_list(drawing::style_areas(
+        &tables,
         counts_at(counts),
         zoom,
         settings_of(style_type, font, for_labels),

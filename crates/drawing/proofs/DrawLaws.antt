@@ -1,11 +1,12 @@
 -- Laws of the two lists, one for each way through the code, over plain lists and numbers.
-use Prim.Native.Nat.{ℕ}
+use Prim.Native.Nat.{ℕ, ◌≤◌}
 use mathlib.Core.Path.{◌≡◌, refl, sym, ◌∙◌, ap, ap₂}
 use mathlib.Core.Bool.{Bool, true, false, not}
 use mathlib.Core.List.{List, [], ◌++◌}
 use native.Mathlib.Omega.{arith}
 use lib.Ieee.{Float}
-use lib.ListN.{length, take, drop, replicate, length-append, take-append-drop}
+use lib.ListN.{length, take, drop, replicate, length-append, length-replicate, take-append-drop}
+use lib.Seq.{length-take-le}
 use Rattle.base.specs.Bytes.{Bytes}
 use Rattle.base.specs.Choice.{pick}
 use Rattle.base.specs.Refusal.{refusal}
@@ -17,7 +18,8 @@ use Rattle.valid.specs.Valid.{tables_sound}
 use Rattle.valid.specs.declared.Counts.{Counts}
 use Rattle.cascade.specs.Sort.{sort}
 use Rattle.style.specs.declared.Settings.{Settings}
-use Rattle.order.specs.Keys.{Key, key_le}
+use Rattle.order.specs.declared.Key.{Key}
+use Rattle.order.specs.Keys.{key_le}
 use Rattle.drawing.specs.Gather.{Gathered, stopped, gathered, on-Gathered, gather_of}
 use Rattle.drawing.specs.Lists.{room_of, entries_of, listed, ordered, nodes_of, areas_of}
 use Rattle.drawing.proofs.ListLaws.{length_sort}
@@ -34,6 +36,10 @@ was_true false h = sym h
 -- a list of zeros, of so many words
 pub zeros : (len : ℕ) (z : List ℕ) → z ≡ replicate len 0 → length z ≡ len → z ≡ replicate (length z) 0
 zeros len z e h = e ∙ sym (ap (λ n. replicate n 0) h)
+
+-- the first n of 4096
+pub part_length : {A : Type 0} (z : A) (n : ℕ) → n ≤ 4096 → length (take n (replicate 4096 z)) ≡ n
+part_length z n h = length-take-le n (replicate 4096 z) (rw (length-replicate 4096 z) h)
 
 -- ---- the answer and the list
 
@@ -119,9 +125,11 @@ module _
       unfolding areas_of listed on-Gathered pick
       ways_refused x p u q = rw (← e, was_true b y, ways_gathered ∙ p) (ap (no_list x) q)
 
-      module _ (ws : List Key) (p : g ≡ gathered ws) (g' : Gathered) (h' : g' ≡ gathers room Areas true multipolygons ws) where
+      module _
+          (ws : List Key) (p : g ≡ gathered ws) (room' : ℕ) (r' : room' ≡ room_of len') (g' : Gathered)
+          (h' : g' ≡ gathers room' Areas true multipolygons ws) where
         both_gathered : gathers (room_of len) Areas true multipolygons ws ≡ g'
-        both_gathered = sym (h' ∙ ap (λ (m : ℕ). gathers m Areas true multipolygons ws) room_is)
+        both_gathered = sym (h' ∙ ap (λ (m : ℕ). gathers m Areas true multipolygons ws) (r' ∙ ap room_of z))
 
         pub areas_refused :
             (x : Refusal)

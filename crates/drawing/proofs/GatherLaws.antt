@@ -2,33 +2,32 @@
 use Prim.Native.Nat.{ℕ, suc, ◌+◌, ◌-◌, ◌≤◌, ◌<◌}
 use mathlib.Core.Path.{◌≡◌, refl, sym, ◌∙◌, ap}
 use mathlib.Core.Bool.{Bool, true, false}
-use mathlib.Core.List.{List, map}
+use mathlib.Core.List.{List, [], ◌++◌}
 use native.Mathlib.Omega.{arith}
 use lib.Dec.{leb, ltb}
 use lib.IntN.{ℤ}
 use lib.Ieee.{Float}
-use lib.ListN.{length, get_or}
-use borrow.Author.Tests.{ltb-false}
+use lib.ListN.{length, take, drop, length-drop}
+use lib.Seq.{length-take-le, take-append-add}
+use Rattle.std.proofs.lemmas.List.{take-append-le}
+use borrow.Author.Tests.{ltb-true, ltb-false, lt-ltb, le-ltb}
 use Rattle.base.specs.Bytes.{Bytes}
 use Rattle.base.specs.Choice.{pick, by-test, via, via_with}
-use Rattle.base.specs.Map.{key_of}
 use Rattle.base.specs.Refusal.{of_entity}
 use Rattle.base.specs.Turns.{Turn, more, done}
 use Rattle.base.specs.declared.refusal.Refusal.{Refusal}
 use Rattle.base.proofs.Loops.{Going, going_start, going_more, going_done}
-use Rattle.group.specs.Number.{number_at}
-use Rattle.group.specs.Pair.{skip_of, all_utf8}
-use Rattle.group.proofs.Numbers.{number_within}
-use Rattle.group.proofs.Pairs.{skip_within}
-use Rattle.entity.specs.Layout.{kind_fits, rising, tags_of, closed_of, tags_at, entity_at, next_of}
+use Rattle.group.specs.Pair.{all_utf8}
+use Rattle.entity.specs.Layout.{tags_of, entity_at, next_of}
+use Rattle.entity.proofs.Inverse.{end_there}
 use Rattle.entity.specs.declared.EntityRange.{EntityRange}
 use Rattle.entity.specs.declared.Sort.{Sort}
 use Rattle.styles.specs.Styles.{styled_rows}
-use Rattle.order.specs.Keys.{Key}
-use Rattle.drawing.specs.Gather.{Gathered, stopped, gathered, on-Gathered, keys_at, told, keys_from, any_nan, keys_in, push, Spot, entity_keys, gather_turn, gather_of}
+use Rattle.order.specs.declared.Key.{Key}
+use Rattle.drawing.specs.Gather.{Gathered, stopped, gathered, on-Gathered, told, keys_from, any_nan, keys_in, push, Spot, entity_keys, gather_turn, gather_of}
 use Rattle.std.specs.Prelude.{Option, Result, Ok, Err, Some, None}
 use Rattle.base.specs.Option.{on_option, on_result}
-use Rattle.base.proofs.Options.{by_option, by_option2}
+use Rattle.base.proofs.Options.{by_option}
 
 -- ---- one entity, from the answer r and the table t of its walk
 
@@ -72,67 +71,11 @@ module _
 
 -- ---- an entity that is read ends behind its start and within the stream
 
-by_entity : {A : Type 0} (x : Option EntityRange) → (x ≡ None → A) → ((r : EntityRange) → x ≡ Some r → A) → A
-by_entity None f g = f refl
-by_entity (Some r) f g = g r refl
-
-none_whole : {A : Type 0} {r : EntityRange} → None ≡ Some r → A
-none_whole e = absurd (let z : ◌≡◌ {A = ℕ} 0 1 = cc in omega arith)
-
 bad_next : {A : Type 0} {x : Refusal} {r : EntityRange} → Err x ≡ Ok (Some r) → A
 bad_next e = absurd (let z : ◌≡◌ {A = ℕ} 0 1 = cc in omega arith)
 
 no_next : {A : Type 0} {r : EntityRange} → ◌≡◌ {A = Result (Option EntityRange) Refusal} (Ok None) (Ok (Some r)) → A
 no_next e = absurd (let z : ◌≡◌ {A = ℕ} 0 1 = cc in omega arith)
-
-closed_is : (s : Bytes) (at : ℕ) (x r : EntityRange) → closed_of s at x ≡ Some r → x ≡ r
-unfolding closed_of pick
-closed_is s at x r e =
-    by-test (ltb 65536 (x.end - at))
-    (λ a. none_whole (rw a at e))
-    (λ a.
-    by-test (rising (map key_of (tags_of s x)))
-    (λ b. let y : Some x ≡ Some r = rw (a, b) at e in cc)
-    (λ b. none_whole (rw (a, b) at e)))
-
-tags_end :
-    (s : Bytes) (at kind id from : ℕ) (r : EntityRange)
-    → tags_at s at kind id from ≡ Some r
-    → (from < r.end) × (r.end ≤ length s)
-unfolding tags_at on_option
-tags_end s at kind id from r e =
-    by_option2 (number_at s from 256)
-    (λ a. none_whole (rw a at e))
-    (λ n tags a.
-    by_option (skip_of n s tags)
-    (λ b. none_whole (rw (a, b) at e))
-    (λ end b.
-    let x : EntityRange = record { kind = kind; id = id; tags = tags; count = n; end = end } in
-    let y : closed_of s at x ≡ Some r = rw (a, b) at e in
-    let z : end ≡ r.end = ap (λ (q : EntityRange). q.end) (closed_is s at x r y) in
-    let c = number_within s from 256 n tags a in
-    let d = skip_within n s tags end b c.1 in
-    (omega arith, omega arith)))
-
-entity_end :
-    (sort : Sort) (s : Bytes) (at : ℕ) (r : EntityRange)
-    → entity_at sort s at ≡ Some r
-    → (at < r.end) × (r.end ≤ length s)
-unfolding entity_at on_option pick
-entity_end sort s at r e =
-    by-test (leb (length s) at)
-    (λ a. none_whole (rw a at e))
-    (λ a.
-    by-test (kind_fits sort (get_or s at 0))
-    (λ b.
-    by_option2 (number_at s (at + 1) 18446744073709551615)
-    (λ c. none_whole (rw (a, b, c) at e))
-    (λ id next c.
-    let y : tags_at s at (get_or s at 0) id next ≡ Some r = rw (a, b, c) at e in
-    let d = number_within s (at + 1) 18446744073709551615 id next c in
-    let g = tags_end s at (get_or s at 0) id next r y in
-    (omega arith, g.1)))
-    (λ b. none_whole (rw (a, b) at e)))
 
 pub next_end :
     (sort : Sort) (multipolygons : Bool) (s : Bytes) (at place : ℕ) (r : EntityRange)
@@ -146,32 +89,68 @@ next_end sort multipolygons s at place r e =
     by-test (leb (length s) at)
     (λ b. no_next (rw (a, b) at e))
     (λ b.
-    by_entity (entity_at sort s at)
+    by_option (entity_at sort s at)
     (λ c. bad_next (rw (a, b, c) at e))
     (λ x c.
     by-test (all_utf8 (tags_of s x))
     (λ d.
     let y : Ok (Some x) ≡ Ok (Some r) = rw (a, b, c, d) at e in
     let z : x ≡ r = cc in
-    let h = entity_end sort s at r (c ∙ ap Some z) in
+    let h = end_there sort s at r (c ∙ ap Some z) in
     (h.0, h.1, ltb-false 1048576 (length s) a))
     (λ d. bad_next (rw (a, b, c, d) at e)))))
 
 -- ---- a stream
 
-pub told_stopped :
-    (q : Result ℕ Refusal) (ls : List ℤ) (zs : List Float) (ws : List ℕ) (x : Gathered) (r : Refusal)
-    → told q ls zs ws ≡ x
-    → q ≡ Err r
-    → x ≡ stopped r
-told_stopped q ls zs ws x r e m = sym e ∙ ap (λ (q : Result ℕ Refusal). told q ls zs ws) m
+pub told_stopped : (q : Result ℕ Refusal) (t : List Key) (x : Gathered) (r : Refusal) → told q t ≡ x → q ≡ Err r → x ≡ stopped r
+told_stopped q t x r e m = sym e ∙ ap (λ (q : Result ℕ Refusal). told q t) m
 
-pub told_now :
-    (q : Result ℕ Refusal) (ls : List ℤ) (zs : List Float) (ws : List ℕ) (x : Gathered) (n : ℕ)
-    → told q ls zs ws ≡ x
-    → q ≡ Ok n
-    → x ≡ gathered (keys_at ls zs ws n)
-told_now q ls zs ws x n e m = sym e ∙ ap (λ (q : Result ℕ Refusal). told q ls zs ws) m
+pub told_now : (q : Result ℕ Refusal) (t : List Key) (x : Gathered) (n : ℕ) → told q t ≡ x → q ≡ Ok n → x ≡ gathered (take n t)
+told_now q t x n e m = sym e ∙ ap (λ (q : Result ℕ Refusal). told q t) m
+
+-- keys behind the first m of t, from what is answered of the part behind them
+module _ (t : List Key) (m : ℕ) (h : m ≤ length t) where
+  abbrev part : List Key
+  part = take (length t - m) (drop m t)
+
+  pub part_length : m + length part ≡ length t
+  part_length = omega (arith, length-drop m t, length-take-le (length t - m) (drop m t) (rw (length-drop m t) (omega arith)))
+
+  abbrev after : Gathered → Gathered
+  after x = on-Gathered x stopped (λ xs. gathered (take m t ++ xs))
+
+  push_behind : (g : Gathered) → push (length t) (take m t) g ≡ after (push (length part) [] g)
+  unfolding push on-Gathered pick
+  push_behind (stopped r) = refl
+  push_behind (gathered xs) =
+      let l = length-take-le m t h in
+      by-test (ltb (length part) (0 + length xs))
+      (λ a.
+      let b : length part < 0 + length xs = ltb-true (length part) (0 + length xs) a in
+      let c : length t < length (take m t) + length xs = omega (arith, part_length) in
+      rw (a, lt-ltb (length t) (length (take m t) + length xs) c))
+      (λ a.
+      let b : 0 + length xs ≤ length part = ltb-false (length part) (0 + length xs) a in
+      let c : length (take m t) + length xs ≤ length t = omega (arith, part_length) in
+      rw (a, le-ltb (length t) (length (take m t) + length xs) c))
+
+  pub behind_stopped : (g : Gathered) (r : Refusal) → push (length part) [] g ≡ stopped r → push (length t) (take m t) g ≡ stopped r
+  unfolding on-Gathered
+  behind_stopped g r e = push_behind g ∙ ap after e
+
+  pub behind_now :
+      (g : Gathered) (u r : List Key) (k : ℕ)
+      → push (length part) [] g ≡ gathered (take k u)
+      → k ≤ length u
+      → push (length t) (take m t) g ≡ gathered (take (m + k) (take m t ++ (u ++ r)))
+  unfolding on-Gathered
+  behind_now g u r k e l =
+      push_behind g
+      ∙ ap after e
+      ∙ ap (λ xs. gathered (take m t ++ xs)) (sym (take-append-le k u r l))
+      ∙ ap gathered
+      (sym (take-append-add (take m t) (u ++ r) k)
+      ∙ ap (λ n. take (n + k) (take m t ++ (u ++ r))) (length-take-le m t h))
 
 abbrev spot : ℕ → ℕ → List Key → Spot
 spot at place ks = record { at = at; place = place; keys = ks }

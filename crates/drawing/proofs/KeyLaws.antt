@@ -1,151 +1,31 @@
 -- Laws of keys, one for each way through the code, over plain lists and numbers.
-use Prim.Native.Nat.{ℕ, zero, suc, ◌+◌, ◌-◌, ◌*◌, ◌≤◌, ◌<◌}
+use Prim.Native.Nat.{ℕ, suc, ◌+◌, ◌-◌, ◌*◌, ◌≤◌, ◌<◌}
 use mathlib.Core.Path.{◌≡◌, refl, sym, ◌∙◌, ap, subst}
 use mathlib.Core.Bool.{Bool, true, false, not}
-use mathlib.Core.List.{List, [], ◌∷◌, ◌++◌, map, append_assoc, append-nil}
+use mathlib.Core.List.{List, [], ◌∷◌, ◌++◌, append-nil}
 use native.Mathlib.Omega.{arith}
 use lib.Dec.{T}
-use lib.IntN.{ℤ, pos}
+use lib.IntN.{ℤ}
 use lib.Ieee.{Float, nan, inf, fin, ne, eq, is_nan}
 use lib.Ieee.Compare.{differs_from_itself}
-use lib.ListN.{length, take, drop, get_or, set, length-append, get_or-append}
-use lib.Seq.{append_snoc, length-take-le, get_or-set_same, get_or-set_other, get_or-append-add, get_or_at, get_or-take, sets-eq}
+use lib.ListN.{length, take, get_or, set, length-append}
+use lib.Seq.{append_snoc, take-suc-set}
+use native.Mathlib.Numerals.{add-one}
 use borrow.Author.Tests.{lt-ltb, le-ltb}
 use Rattle.base.specs.Bytes.{Bytes, same}
 use Rattle.base.specs.Choice.{pick, clash}
 use Rattle.base.specs.Refusal.{refusal}
-use Rattle.base.specs.Table.{zero_float}
 use Rattle.base.specs.declared.refusal.Refusal.{Refusal}
 use Rattle.cascade.specs.Clause.{star}
 use Rattle.cascade.specs.Map.{keep}
 use Rattle.decode.specs.Decode.{places}
-use Rattle.decode.proofs.Entries.{places_next}
 use Rattle.walk.specs.Rows.{numbers_at}
 use Rattle.walk.specs.Selectors.{layer_in}
-use Rattle.style.specs.Style.{z_index_in, foreground_in}
+use Rattle.style.specs.Style.{z_index_in}
 use Rattle.styles.specs.Styles.{styled_rows}
-use Rattle.order.specs.Keys.{Key, key_at}
-use Rattle.drawing.specs.Gather.{Gathered, stopped, gathered, keys_at, layer_rank, fill_rank, stream_rank, z_of, key_of, keys_from, any_nan, push}
+use Rattle.order.specs.declared.Key.{Key}
+use Rattle.drawing.specs.Gather.{Gathered, stopped, gathered, z_of, key_of, keys_from, any_nan, push}
 use Rattle.std.specs.Prelude.{Option}
-
--- ---- ranks
-
-pub fill_labels : (l f : Bool) → l ≡ true → 0 ≡ fill_rank l f
-unfolding fill_rank pick
-fill_labels l f e = rw e
-
-pub fill_drawn : (l f : Bool) (n : ℕ) → l ≡ false → n ≡ pick f 1 0 → n ≡ fill_rank l f
-unfolding fill_rank pick
-fill_drawn l f n e q = rw e q
-
-pub one_of : (m : Bool) → m ≡ true → ◌≡◌ {A = ℕ} 1 (pick m 1 0)
-unfolding pick
-one_of m e = rw e
-
-pub none_of : (m : Bool) → m ≡ false → ◌≡◌ {A = ℕ} 0 (pick m 1 0)
-unfolding pick
-none_of m e = rw e
-
--- ---- one key stored
-
-key_is :
-    {a a' : ℤ} {b b' : ℕ} {c c' : Float} {d d' e e' f f' g g' : ℕ}
-    → a ≡ a'
-    → b ≡ b'
-    → c ≡ c'
-    → d ≡ d'
-    → e ≡ e'
-    → f ≡ f'
-    → g ≡ g'
-    → ◌≡◌ {A = Key}
-    (record { layer = a; fill = b; z_index = c; id = d; stream = e; place = f; styled = g })
-    (record { layer = a'; fill = b'; z_index = c'; id = d'; stream = e'; place = f'; styled = g' })
-key_is p q r s t u v = rw (p, q, r, s, t, u, v)
-
-map_alike :
-    {A : Type 0} (f g : ℕ → A) (a n : ℕ)
-    → ((i : ℕ) → i < a + n → f i ≡ g i)
-    → map f (places a n) ≡ map g (places a n)
-unfolding places
-map_alike f g a zero h = refl
-map_alike f g a (suc n) h =
-    rw (h a (omega arith)) (ap (λ l. g a ∷ l) (map_alike f g (a + 1) n (λ i l. h i (omega arith))))
-
-module _ (ws : List ℕ) (at a b c d e : ℕ) (h : at + 5 ≤ length ws) where
-  -- five words stored
-  abbrev five : List ℕ
-  five = set (set (set (set (set ws at a) (at + 1) b) (at + 2) c) (at + 3) d) (at + 4) e
-
-  abbrev behind : List ℕ
-  behind = a ∷ b ∷ c ∷ d ∷ e ∷ drop (at + 5) ws
-
-  five_is : five ≡ take at ws ++ behind
-  five_is =
-      let e₁ : at + 1 ≡ suc at = omega arith in
-      let e₂ : at + 2 ≡ suc (suc at) = omega arith in
-      let e₃ : at + 3 ≡ suc (suc (suc at)) = omega arith in
-      let e₄ : at + 4 ≡ suc (suc (suc (suc at))) = omega arith in
-      rw (e₁, e₂, e₃, e₄) (sets-eq (a ∷ b ∷ c ∷ d ∷ e ∷ []) ws at h)
-      ∙ append_assoc (take at ws) (a ∷ b ∷ c ∷ d ∷ e ∷ []) (drop (at + 5) ws)
-
-  front : length (take at ws) ≡ at
-  front = length-take-le at ws (omega arith)
-
-  five_before : (p : ℕ) → p < at → get_or five p 0 ≡ get_or ws p 0
-  five_before p l =
-      ap (λ (t : List ℕ). get_or t p 0) five_is
-      ∙ get_or-append (take at ws) behind 0 p (omega (arith, front))
-      ∙ get_or-take at ws p 0 l
-
-  five_first : get_or five at 0 ≡ a
-  five_first =
-      ap (λ (t : List ℕ). get_or t at 0) five_is
-      ∙ get_or_at (take at ws) a (b ∷ c ∷ d ∷ e ∷ drop (at + 5) ws) 0 at front
-
-  five_at : (j : ℕ) → get_or five (at + j) 0 ≡ get_or behind j 0
-  five_at j =
-      ap (λ (t : List ℕ). get_or t (at + j) 0) five_is
-      ∙ subst (λ (k : ℕ). get_or (take at ws ++ behind) (k + j) 0 ≡ get_or behind j 0) front
-      (get_or-append-add (take at ws) behind j 0)
-
--- what keys become of the three tables with a key stored behind the first n
-module _
-    (ls : List ℤ) (zs : List Float) (ws : List ℕ) (n : ℕ) (h : n < 4096) (p : length ls ≡ 4096) (q : length zs ≡ 4096)
-    (r : length ws ≡ 20480) (l : ℤ) (z : Float) (f id stream place k : ℕ) where
-  abbrev words : List ℕ
-  words = five ws (n * 5) f id stream place k (omega arith)
-
-  keys_before :
-      map (key_at (set ls n l) (set zs n z) words) (places 0 n) ≡ keys_at ls zs ws n
-  keys_before =
-      map_alike (key_at (set ls n l) (set zs n z) words) (key_at ls zs ws) 0 n
-      λ i g.
-      let b = five_before ws (n * 5) f id stream place k (omega arith) in
-      key_is
-      (get_or-set_other ls n i l (pos 0) (λ e. omega arith))
-      (b (i * 5) (omega arith))
-      (get_or-set_other zs n i z zero_float (λ e. omega arith))
-      (b (i * 5 + 1) (omega arith))
-      (b (i * 5 + 2) (omega arith))
-      (b (i * 5 + 3) (omega arith))
-      (b (i * 5 + 4) (omega arith))
-
-  key_here :
-      key_at (set ls n l) (set zs n z) words n
-      ≡ record { layer = l; fill = f; z_index = z; id = id; stream = stream; place = place; styled = k }
-  key_here =
-      let w = five_at ws (n * 5) f id stream place k (omega arith) in
-      key_is
-      (get_or-set_same ls n l (pos 0) (omega arith))
-      (five_first ws (n * 5) f id stream place k (omega arith))
-      (get_or-set_same zs n z zero_float (omega arith))
-      (w 1) (w 2) (w 3) (w 4)
-
-  keys_put :
-      keys_at (set ls n l) (set zs n z) words (n + 1)
-      ≡ keys_at ls zs ws n ++ (record { layer = l; fill = f; z_index = z; id = id; stream = stream; place = place; styled = k } ∷ [])
-  keys_put =
-      places_next (key_at (set ls n l) (set zs n z) words) n ∙ rw (keys_before, key_here)
 
 -- ---- the rows of the layers that are left
 
@@ -262,7 +142,7 @@ module _
   abbrev pub push_all : List Key → Gathered
   push_all ks = push room ks (gathered (keys 0 (styled_rows bundle selectors t m)))
 
-  push_start : (ks : List Key) → push_left ks 0 0 ≡ push_all ks
+  pub push_start : (ks : List Key) → push_left ks 0 0 ≡ push_all ks
   push_start ks = ap (λ is. push room ks (gathered (keys 0 is))) (rows_start bundle selectors t m)
 
   module _ (ks : List Key) (i k : ℕ) (all : Gathered) (g : push_left ks i k ≡ all) where
@@ -291,63 +171,20 @@ module _
             ∙ push_more room ks (key k i) (keys (k + 1) (rows bundle selectors t m (i + 1)))
             ∙ next
 
-  -- the same with the keys in three tables, where n + k are so far
-  pub keys_moved :
-      (ls : List ℤ) (zs : List Float) (ws : List ℕ) (n : ℕ)
-      → push_left (keys_at ls zs ws (n + 0)) 0 0 ≡ push_all (keys_at ls zs ws n)
-  keys_moved ls zs ws n =
-      let e : n + 0 ≡ n = omega arith in
-      push_start (keys_at ls zs ws (n + 0)) ∙ ap (λ n. push_all (keys_at ls zs ws n)) e
-
+  -- the same where the first k of t are the entity's
   pub keys_next :
-      (ls : List ℤ) (zs : List Float) (ws : List ℕ) (n i k : ℕ) (all : Gathered)
-      → push_left (keys_at ls zs ws (n + k)) i k ≡ all
+      (t' : List Key) (i k : ℕ) (all : Gathered)
+      → push_left (take k t') i k ≡ all
       → i < m
       → (w : ℕ)
       → w ≡ get_or t (i * 131) 0
       → (r : Bool)
       → r ≡ same star (layer_in bundle selectors w)
       → r ≡ false
-      → (ls' : List ℤ) (zs' : List Float) (ws' : List ℕ)
-      → keys_at ls' zs' ws' (n + k + 1) ≡ keys_at ls zs ws (n + k) ++ (key k i ∷ [])
-      → push_left (keys_at ls' zs' ws' (n + (k + 1))) (i + 1) (k + 1) ≡ all
-  keys_next ls zs ws n i k all g h w e r q y ls' zs' ws' u =
-      let d : n + (k + 1) ≡ n + k + 1 = omega arith in
-      push_next (keys_at ls zs ws (n + k)) i k all g h w e r q y (keys_at ls' zs' ws' (n + (k + 1)))
-      (ap (keys_at ls' zs' ws') d ∙ u)
-
-module _
-    (bundle : Bytes) (properties : List ℕ) (numbers : List Float) (for_labels multipolygons : Bool) (place kind id : ℕ)
-    (layer : Option ℤ) (t : List ℕ) where
-  -- the key of layer i stored behind the first n of three tables
-  pub key_stored :
-      (k i : ℕ) (ls : List ℤ) (zs : List Float) (ws : List ℕ) (n : ℕ)
-      → (h : n < 4096)
-      → (p : length ls ≡ 4096)
-      → (q : length zs ≡ 4096)
-      → (r : length ws ≡ 20480)
-      → (l : ℤ)
-      → l ≡ layer_rank layer
-      → (row : List ℕ)
-      → row ≡ numbers_at t i
-      → (z : Float)
-      → z ≡ z_index_in bundle properties numbers row kind
-      → (row' : List ℕ)
-      → row' ≡ numbers_at t i
-      → (b : Bool)
-      → b ≡ foreground_in bundle properties numbers row'
-      → (f : ℕ)
-      → f ≡ fill_rank for_labels b
-      → (s : ℕ)
-      → s ≡ stream_rank multipolygons
-      → keys_at (set ls n l) (set zs n z)
-      (set (set (set (set (set ws (n * 5) f) (n * 5 + 1) id) (n * 5 + 2) s) (n * 5 + 3) place) (n * 5 + 4) k)
-      (n + 1)
-      ≡ keys_at ls zs ws n ++ (key_of bundle properties numbers for_labels multipolygons place kind id layer t k i ∷ [])
-  key_stored k i ls zs ws n h p q r l a row b z c row' d g e f x s y =
-      keys_put ls zs ws n h p q r l z f id s place k
-      ∙ ap (λ (x : Key). keys_at ls zs ws n ++ (x ∷ []))
-      (key_is a
-      (x ∙ ap (fill_rank for_labels) (e ∙ ap (λ r. foreground_in bundle properties numbers r) d))
-      (c ∙ ap (λ r. z_index_in bundle properties numbers r kind) b)
-      refl y refl refl)
+      → k < length t'
+      → (x : Key)
+      → x ≡ key k i
+      → push_left (take (k + 1) (set t' k x)) (i + 1) (k + 1) ≡ all
+  keys_next t' i k all g h w e r q y l x u =
+      push_next (take k t') i k all g h w e r q y (take (k + 1) (set t' k x))
+      (rw (add-one k, take-suc-set t' k x l, u))

@@ -1,40 +1,22 @@
 -- Laws of the list, one for each way through the code: places counted, entries written, and numbers sorted by their keys.
-use Prim.Native.Nat.{ℕ, zero, suc, ◌+◌, ◌-◌, ◌*◌, ◌%◌, ◌/◌, ◌≤◌, ◌<◌}
+use Prim.Native.Nat.{ℕ, zero, suc, ◌+◌, ◌-◌, ◌*◌, ◌≤◌, ◌<◌}
 use mathlib.Core.Path.{◌≡◌, refl, sym, ◌∙◌, ap, ap₂}
 use mathlib.Core.Bool.{Bool}
-use mathlib.Core.List.{List, [], ◌∷◌, ◌++◌, map, map-map, map-append, append_assoc}
+use mathlib.Core.List.{List, [], ◌∷◌, ◌++◌, map, map-map, map-append, append-nil}
 use native.Mathlib.Omega.{arith}
 use native.Mathlib.Numerals.{add-one}
-use native.Mathlib.Nat.{add-zero}
-use lib.IntN.{ℤ}
-use lib.Ieee.{Float}
-use lib.ListN.{length, take, drop, get_or, set, replicate, length-append, length-map, take-append-drop, get_or-eq_default}
-use lib.Seq.{take-suc, drop-cons, set_at, append_snoc, length-take-le, take_at, drop_at}
+use lib.ListN.{length, take, drop, get_or, set, replicate, length-append, drop_of_length-le, length-drop}
+use lib.Seq.{take-suc, drop-cons, set_at, append_snoc, length-take-le, take_at, drop_at, take_all}
 use Rattle.base.specs.Choice.{by-test}
 use Rattle.base.specs.Table.{padded, flat}
 use Rattle.base.proofs.Tables.{padded_none, padded_entry}
 use Rattle.cascade.specs.Sort.{place, sort}
 use Rattle.cascade.proofs.SortLaws.{sort_map}
 use Rattle.decode.specs.Decode.{places}
-use Rattle.order.specs.Keys.{Key, key_at, key_le, number_le}
-use Rattle.drawing.specs.Gather.{keys_at}
-use Rattle.drawing.specs.Lists.{room_of, entry_words, entry_at, entries_of}
-
-pub room_few : (len : ℕ) → len / 3 < 4096 → len / 3 ≡ room_of len
-unfolding room_of
-room_few len h = omega arith
-
-pub room_most : (len : ℕ) → 4096 ≤ len / 3 → 4096 ≡ room_of len
-unfolding room_of
-room_most len h = omega arith
-
-pub room_bound : (len room : ℕ) → room ≡ room_of len → room ≤ 4096
-unfolding room_of
-room_bound len room e = omega arith
-
-pub room_fits : (len room k : ℕ) → room ≡ room_of len → k ≤ room → (k ≤ 4096) × (k * 3 ≤ len)
-unfolding room_of
-room_fits len room k e h = (omega arith, omega arith)
+use Rattle.table.specs.Value.{word}
+use Rattle.order.specs.declared.Key.{Key}
+use Rattle.order.specs.Keys.{zero_key, key_at, key_le, number_le}
+use Rattle.drawing.specs.Lists.{entry_words, entry_at, entries_of}
 
 -- ---- places
 
@@ -42,14 +24,6 @@ length_places : (a k : ℕ) → length (places a k) ≡ k
 unfolding places
 length_places a zero = refl
 length_places a (suc k) = ap suc (length_places (a + 1) k)
-
--- keys by a function of their places
-pub made_none : (f : ℕ → Key) → map f (places 0 0) ≡ []
-unfolding places
-made_none f = refl
-
-pub made_length : (f : ℕ → Key) (n : ℕ) → length (map f (places 0 n)) ≡ n
-made_length f n = length-map (places 0 n) f ∙ length_places 0 n
 
 places_append : (a k m : ℕ) → places a (k + m) ≡ places a k ++ places (a + k) m
 unfolding places
@@ -66,40 +40,25 @@ places_more : (a k : ℕ) → places a (k + 1) ≡ places a k ++ ((a + k) ∷ []
 unfolding places
 places_more a k = places_append a k 1
 
--- ---- numbers counted into the order, i of them so far
-
-module _ (t : List ℕ) (at from : ℕ) where
-  abbrev pub counted : ℕ → List ℕ
-  counted i = take at t ++ (places from i ++ drop (at + i) t)
-
-  pub count_start : t ≡ counted 0
-  unfolding places
-  count_start = rw (add-zero at) (sym (take-append-drop at t))
-
-  pub count_more : (i : ℕ) → at + i < length t → set (counted i) (at + i) (from + i) ≡ counted (i + 1)
-  count_more i h =
-      let x = get_or t (at + i) 0 in
-      let r = drop (suc (at + i)) t in
-      let l : length (take at t ++ places from i) ≡ at + i =
-      length-append (take at t) (places from i) ∙ omega (arith, length-take-le at t (omega arith), length_places from i) in
-      let e : suc (at + i) ≡ at + (i + 1) = omega arith in
-      ap (λ r. set (take at t ++ (places from i ++ r)) (at + i) (from + i)) (drop-cons t (at + i) 0 h)
-      ∙ ap (λ r. set r (at + i) (from + i)) (sym (append_assoc (take at t) (places from i) (x ∷ r)))
-      ∙ set_at (take at t ++ places from i) x r (from + i) (at + i) l
-      ∙ append_assoc (take at t) (places from i) ((from + i) ∷ r)
-      ∙ ap (λ r. take at t ++ r) (sym (append_snoc (places from i) (from + i) r))
-      ∙ ap₂ (λ (l : List ℕ) (k : ℕ). take at t ++ (l ++ drop k t)) (sym (places_more from i)) e
-
-  pub count_end : (i k : ℕ) → i ≤ k → k ≤ i → (u : List ℕ) → u ≡ counted i → u ≡ counted k
-  count_end i k g h u q = let e : i ≡ k = omega arith in q ∙ ap counted e
+-- numbers counted, i of them so far
+pub count_more :
+    (t : List ℕ) (from i : ℕ)
+    → i < length t
+    → set (places from i ++ drop i t) i (from + i) ≡ places from (i + 1) ++ drop (i + 1) t
+count_more t from i h =
+    let e : i + 1 ≡ suc i = omega arith in
+    ap (λ r. set (places from i ++ r) i (from + i)) (drop-cons t i 0 h)
+    ∙ set_at (places from i) (get_or t i 0) (drop (suc i) t) (from + i) i (length_places from i)
+    ∙ sym (append_snoc (places from i) (from + i) (drop (suc i) t))
+    ∙ ap₂ (λ (l : List ℕ) (k : ℕ). l ++ drop k t) (sym (places_more from i)) (sym e)
 
 -- ---- entries written, those of the first i numbers so far
 
-module _ (words order : List ℕ) (len : ℕ) where
+module _ (keys : List Key) (order : List ℕ) (len : ℕ) where
   abbrev pub written : ℕ → List ℕ
-  written i = padded 0 len (flat (map (entry_at words) (take i order)))
+  written i = padded 0 len (flat (map (entry_at keys) (take i order)))
 
-  length_entries : (is : List ℕ) → length (flat (map (entry_at words) is)) ≡ length is * 3
+  length_entries : (is : List ℕ) → length (flat (map (entry_at keys) is)) ≡ length is * 3
   length_entries [] = refl
   length_entries (i ∷ is) = omega (arith, length_entries is)
 
@@ -107,34 +66,28 @@ module _ (words order : List ℕ) (len : ℕ) where
   write_start u q = q ∙ sym (padded_none 0 len)
 
   pub write_more :
-      (i k a b d : ℕ)
+      (i : ℕ) (k : Key)
       → i < length order
       → i * 3 + 3 ≤ len
-      → k ≡ get_or order i 0
-      → a ≡ get_or words (k * 5 + 2) 0 % 4294967296
-      → b ≡ get_or words (k * 5 + 3) 0 % 4294967296
-      → d ≡ get_or words (k * 5 + 4) 0 % 4294967296
+      → k ≡ key_at keys (get_or order i 0)
       → (u : List ℕ)
       → u ≡ written i
-      → set (set (set u (i * 3) a) (i * 3 + 1) b) (i * 3 + 2) d ≡ written (i + 1)
-  write_more i k a b d h w p x y z u q =
+      → set (set (set u (i * 3) (word k.stream)) (i * 3 + 1) (word k.place)) (i * 3 + 2) (word k.styled) ≡ written (i + 1)
+  write_more i k h w p u q =
       let e : i * 3 + 2 ≡ i * 3 + 1 + 1 = omega arith in
-      let n : length (flat (map (entry_at words) (take i order))) ≡ i * 3 =
+      let n : length (flat (map (entry_at keys) (take i order))) ≡ i * 3 =
       length_entries (take i order) ∙ ap (λ n. n * 3) (length-take-le i order (omega arith)) in
-      ap (λ j. set (set (set u (i * 3) a) (i * 3 + 1) b) j d) e
-      ∙ ap (λ u. set (set (set u (i * 3) a) (i * 3 + 1) b) (i * 3 + 1 + 1) d) q
-      ∙ padded_entry 0 len 3 i (map (entry_at words) (take i order)) (a ∷ b ∷ d ∷ []) n refl w
+      ap (λ j. set (set (set u (i * 3) (word k.stream)) (i * 3 + 1) (word k.place)) j (word k.styled)) e
+      ∙ ap (λ u. set (set (set u (i * 3) (word k.stream)) (i * 3 + 1) (word k.place)) (i * 3 + 1 + 1) (word k.styled)) q
+      ∙ padded_entry 0 len 3 i (map (entry_at keys) (take i order)) (entry_words k) n refl w
       ∙ ap (λ es. padded 0 len (flat es))
-      (ap (λ l. map (entry_at words) (take i order) ++ (l ∷ [])) entry
+      (ap (λ l. map (entry_at keys) (take i order) ++ (l ∷ [])) (ap entry_words p)
       ∙ sym
-      (ap (map (entry_at words)) (ap (λ n. take n order) (add-one i) ∙ take-suc order i 0 h)
-      ∙ map-append (entry_at words) (take i order) (get_or order i 0 ∷ [])))
-    where
-      entry : a ∷ b ∷ d ∷ [] ≡ entry_at words (get_or order i 0)
-      entry = rw (x, y, z, p)
+      (ap (map (entry_at keys)) (ap (λ n. take n order) (add-one i) ∙ take-suc order i 0 h)
+      ∙ map-append (entry_at keys) (take i order) (get_or order i 0 ∷ [])))
 
-  pub write_end : (i n : ℕ) → i ≤ n → n ≤ i → (u : List ℕ) → u ≡ written i → u ≡ written n
-  write_end i n g h u q = let e : i ≡ n = omega arith in q ∙ ap written e
+  pub write_end : (i : ℕ) → length order ≤ i → (u : List ℕ) → u ≡ written i → u ≡ padded 0 len (flat (map (entry_at keys) order))
+  write_end i h u q = q ∙ ap (λ l. padded 0 len (flat (map (entry_at keys) l))) (take_all i order h)
 
 -- ---- numbers sorted by their keys
 
@@ -148,88 +101,72 @@ unfolding sort
 length_sort le [] = refl
 length_sort le (x ∷ xs) = length_place le x (sort le xs) ∙ ap suc (length_sort le xs)
 
--- a sort of the first n leaves the length
-sorted_length :
-    (le : ℕ → ℕ → Bool) (q r : List ℕ) (n : ℕ)
-    → r ≡ sort le (take n q) ++ drop n q
-    → length r ≡ length q
-sorted_length le q r n e =
-    ap length e
-    ∙ length-append (sort le (take n q)) (drop n q)
-    ∙ ap (λ k. k + length (drop n q)) (length_sort le (take n q))
-    ∙ sym (length-append (take n q) (drop n q))
-    ∙ ap length (take-append-drop n q)
+-- two counts, each into its part: ys and zs come back from the calls
+pub counted :
+    (t ys zs : List ℕ) (ways : ℕ)
+    → ways ≤ length t
+    → ys ≡ places ways (length (take (length t - ways) t))
+    → zs
+    ≡ places 0
+    (length
+    (take (length (ys ++ drop (length t - ways) t) - (length t - ways))
+    (drop (length t - ways) (ys ++ drop (length t - ways) t))))
+    → take (length t - ways) (ys ++ drop (length t - ways) t)
+    ++ (zs
+    ++ drop (length (ys ++ drop (length t - ways) t) - (length t - ways)) (drop (length t - ways) (ys ++ drop (length t - ways) t)))
+    ≡ places ways (length t - ways) ++ places 0 ways
+counted t ys zs ways h e f =
+    let k = length t - ways in
+    let y : ys ≡ places ways k = e ∙ ap (places ways) (length-take-le k t (omega arith)) in
+    let l : length ys ≡ k = ap length y ∙ length_places ways k in
+    let b : drop k (ys ++ drop k t) ≡ drop k t = drop_at ys (drop k t) k l in
+    let z : length (drop k t) ≡ ways = length-drop k t ∙ omega arith in
+    let n : length (ys ++ drop k t) - k ≡ length (drop k t) = omega (arith, length-append ys (drop k t)) in
+    let q : length (drop k t) ≤ length (drop k t) = omega arith in
+    let w : zs ≡ places 0 ways = f ∙ ap (places 0) (rw (b, n, take_all (length (drop k t)) (drop k t) q) z) in
+    rw (b, n, drop_of_length-le (drop k t) q, take_at ys (drop k t) k l, y, w)
+    (ap (λ l. places ways k ++ l) (append-nil (places 0 ways)))
 
-pub sorted_size :
-    (le : ℕ → ℕ → Bool) (q r : List ℕ) (n : ℕ)
-    → r ≡ sort le (take n q) ++ drop n q
-    → length q ≡ 4096
-    → 4096 ≡ length r
-sorted_size le q r n e l = sym (sorted_length le q r n e ∙ l)
+-- the keys of consecutive numbers
+keys_places : (keys : List Key) (a k : ℕ) → a + k ≤ length keys → map (key_at keys) (places a k) ≡ take k (drop a keys)
+unfolding places
+keys_places keys a zero h = refl
+keys_places keys a (suc k) h =
+    let g : a < length keys = omega arith in
+    let e : a + 1 ≡ suc a = omega arith in
+    ap (λ l. key_at keys a ∷ l) (keys_places keys (a + 1) k (omega arith) ∙ ap (λ i. take k (drop i keys)) e)
+    ∙ sym (ap (take (suc k)) (drop-cons keys a zero_key g))
 
-module _ (layers : List ℤ) (zIndexes : List Float) (words : List ℕ) (ways n : ℕ) (h : ways ≤ n) where
+module _ (keys : List Key) (ways : ℕ) (h : ways ≤ length keys) where
   -- the numbers behind the first `ways`, then those
-  abbrev turned : List ℕ
-  turned = places ways (n - ways) ++ places 0 ways
+  abbrev pub turned : List ℕ
+  turned = places ways (length keys - ways) ++ places 0 ways
 
-  length_turned : length turned ≡ n
+  pub length_turned : length turned ≡ length keys
   length_turned =
-      length-append (places ways (n - ways)) (places 0 ways)
-      ∙ omega (arith, length_places ways (n - ways), length_places 0 ways)
+      length-append (places ways (length keys - ways)) (places 0 ways)
+      ∙ omega (arith, length_places ways (length keys - ways), length_places 0 ways)
 
-  keys_turned :
-      map (key_at layers zIndexes words) turned
-      ≡ drop ways (keys_at layers zIndexes words n) ++ take ways (keys_at layers zIndexes words n)
+  keys_turned : map (key_at keys) turned ≡ drop ways keys ++ take ways keys
   keys_turned =
-      let f = key_at layers zIndexes words in
-      let e : n ≡ ways + (n - ways) = omega arith in
-      let g : 0 + ways ≡ ways = omega arith in
-      let s : map f (places 0 n) ≡ map f (places 0 ways) ++ map f (places ways (n - ways)) =
-      ap (λ k. map f (places 0 k)) e
-      ∙ ap (map f) (places_append 0 ways (n - ways) ∙ ap (λ i. places 0 ways ++ places i (n - ways)) g)
-      ∙ map-append f (places 0 ways) (places ways (n - ways)) in
-      let l : length (map f (places 0 ways)) ≡ ways = length-map (places 0 ways) f ∙ length_places 0 ways in
-      map-append f (places ways (n - ways)) (places 0 ways)
-      ∙ sym
-      (ap (λ ks. drop ways ks ++ take ways ks) s
-      ∙ ap₂ ◌++◌ (drop_at (map f (places 0 ways)) (map f (places ways (n - ways))) ways l)
-      (take_at (map f (places 0 ways)) (map f (places ways (n - ways))) ways l))
+      map-append (key_at keys) (places ways (length keys - ways)) (places 0 ways)
+      ∙ ap₂ ◌++◌
+      (keys_places keys ways (length keys - ways) (omega arith)
+      ∙ take_all (length keys - ways) (drop ways keys) (rw (length-drop ways keys) (omega arith)))
+      (keys_places keys 0 ways (omega arith))
 
-  entries_sorted :
-      map (entry_at words) (sort (number_le layers zIndexes words) turned)
-      ≡ map entry_words
-      (sort key_le (drop ways (keys_at layers zIndexes words n) ++ take ways (keys_at layers zIndexes words n)))
-  entries_sorted =
-      let f = key_at layers zIndexes words in
-      sym (map-map entry_words f (sort (number_le layers zIndexes words) turned))
-      ∙ ap (map entry_words) (sort_map f key_le turned ∙ ap (sort key_le) keys_turned)
-
-  -- o: the room for the numbers, p and q after the two counts, r after the sort
+  -- q: the numbers before the sort, r: after it
   pub list_written :
-      (o p q r : List ℕ) (len : ℕ)
-      → length o ≡ 4096
-      → n ≤ 4096
-      → p ≡ counted o 0 ways (n - ways)
-      → q ≡ counted p (n - ways) 0 ways
-      → r ≡ sort (number_le layers zIndexes words) (take n q) ++ drop n q
-      → written words r len n
-      ≡ padded 0 len
-      (entries_of (sort key_le (drop ways (keys_at layers zIndexes words n) ++ take ways (keys_at layers zIndexes words n))))
-  list_written o p q r len long g a b d =
-      let le = number_le layers zIndexes words in
-      let z : 0 + (n - ways) ≡ n - ways = omega arith in
-      let front : take (n - ways) p ≡ places ways (n - ways) =
-      ap (take (n - ways)) a ∙ take_at (places ways (n - ways)) (drop (0 + (n - ways)) o) (n - ways) (length_places ways (n - ways)) in
-      let whole : q ≡ turned ++ drop (n - ways + ways) p =
-      b
-      ∙ ap (λ l. l ++ (places 0 ways ++ drop (n - ways + ways) p)) front
-      ∙ sym (append_assoc (places ways (n - ways)) (places 0 ways) (drop (n - ways + ways) p)) in
-      let first : take n q ≡ turned = ap (take n) whole ∙ take_at turned (drop (n - ways + ways) p) n length_turned in
-      let sorted : take n r ≡ sort le turned =
-      ap (take n) (d ∙ ap (λ l. sort le l ++ drop n q) first)
-      ∙ take_at (sort le turned) (drop n q) n (length_sort le turned ∙ length_turned) in
-      ap (λ l. padded 0 len (flat (map (entry_at words) l))) sorted ∙ ap (λ l. padded 0 len (flat l)) entries_sorted
-
--- past the end
-pub low_past : (words : List ℕ) (i : ℕ) → length words ≤ i → 0 ≡ get_or words i 0 % 4294967296
-low_past words i h = rw (get_or-eq_default words 0 h)
+      (q r : List ℕ) (len : ℕ)
+      → take (length keys) q ≡ turned
+      → r ≡ sort (number_le keys) (take (length keys) q) ++ drop (length keys) q
+      → padded 0 len (flat (map (entry_at keys) (take (length keys) r)))
+      ≡ padded 0 len (entries_of (sort key_le (drop ways keys ++ take ways keys)))
+  list_written q r len a d =
+      let s : take (length keys) r ≡ sort (number_le keys) turned =
+      ap (take (length keys)) (d ∙ ap (λ l. sort (number_le keys) l ++ drop (length keys) q) a)
+      ∙ take_at (sort (number_le keys) turned) (drop (length keys) q) (length keys) (length_sort (number_le keys) turned ∙ length_turned) in
+      ap (λ l. padded 0 len (flat (map (entry_at keys) l))) s
+      ∙ ap (λ l. padded 0 len (flat l))
+      (sym (map-map entry_words (key_at keys) (sort (number_le keys) turned))
+      ∙ ap (map entry_words) (sort_map (key_at keys) key_le turned ∙ ap (sort key_le) keys_turned))

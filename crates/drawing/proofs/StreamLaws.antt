@@ -14,7 +14,7 @@ use Rattle.base.specs.Turns.{Turn, more, done}
 use Rattle.base.proofs.Loops.{Kept, turns_keep}
 use Rattle.entity.specs.declared.EntityRange.{EntityRange}
 use Rattle.entity.specs.declared.Sort.{Sort}
-use Rattle.order.specs.Keys.{Key}
+use Rattle.order.specs.declared.Key.{Key}
 use Rattle.drawing.specs.Gather.{Gathered, stopped, gathered, on-Gathered, push, Spot, gather_turn, gather_of}
 use Rattle.std.specs.Prelude.{Option, Some, None, Result, Ok, Err}
 use Rattle.base.specs.Option.{on_result_option, on_option, on_result}

@@ -1,6 +1,6 @@
 -- The keys of a drawing list, gathered entity by entity from tables, a bundle and streams that may be any bytes: refusals 7, 2, those
 -- of the walk, 9, then 25.
-use Rattle.std.specs.Prelude.{ℕ, suc, ◌+◌, ◌≤◌, Bool, true, false, List, [], ◌∷◌, ◌++◌, map, ltb, ℤ, pos, Float, length, Option, Some, None, Result, Ok, Err}
+use Rattle.std.specs.Prelude.{ℕ, suc, ◌+◌, ◌≤◌, Bool, true, false, List, [], ◌∷◌, ◌++◌, ltb, ℤ, pos, Float, length, take, Option, Some, None, Result, Ok, Err}
 use Rattle.std.specs.Float.Ieee.{is_nan}
 use Rattle.base.specs.Bytes.{Bytes}
 use Rattle.base.specs.Choice.{pick}
@@ -12,12 +12,11 @@ use Rattle.entity.specs.declared.EntityRange.{EntityRange}
 use Rattle.entity.specs.declared.Sort.{Sort}
 use Rattle.cascade.specs.Style.{layer_tag}
 use Rattle.tag_number.specs.Told.{layer_told}
-use Rattle.decode.specs.Decode.{places}
 use Rattle.walk.specs.Maps.{walk_of}
 use Rattle.walk.specs.Rows.{numbers_at}
 use Rattle.style.specs.Style.{z_index_in, foreground_in}
 use Rattle.styles.specs.Styles.{styled_rows}
-use Rattle.order.specs.Keys.{Key, key_at}
+use Rattle.order.specs.declared.Key.{Key}
 use Rattle.base.specs.Option.{on_result_option}
 
 -- a refusal, or the keys so far
@@ -29,14 +28,10 @@ unfoldable pub on-Gathered : {A : Type 0} → Gathered → (Refusal → A) → (
 on-Gathered (stopped r) f g = f r
 on-Gathered (gathered ks) f g = g ks
 
--- the first n keys of three tables
-abbrev pub keys_at : List ℤ → List Float → List ℕ → ℕ → List Key
-keys_at layers zIndexes words n = map (key_at layers zIndexes words) (places 0 n)
-
--- what an answer tells, beside the tables that it leaves: after a refusal they are not spoken of
-abbrev pub told : Result ℕ Refusal → List ℤ → List Float → List ℕ → Gathered
-told (Err r) layers zIndexes words = stopped r
-told (Ok n) layers zIndexes words = gathered (keys_at layers zIndexes words n)
+-- what an answer tells, beside the keys that it leaves: after a refusal they are not spoken of
+abbrev pub told : Result ℕ Refusal → List Key → Gathered
+told (Err r) keys = stopped r
+told (Ok n) keys = gathered (take n keys)
 
 -- a count that an answer hands on stays within the room
 abbrev pub IsBounded : ℕ → Result ℕ Refusal → Type 0

@@ -1,5 +1,5 @@
 -- The drawing lists of nodes and of areas: 22, then the streams, then the sort; three words an entry, zeros behind them.
-use Rattle.std.specs.Prelude.{ℕ, ◌+◌, ◌*◌, ◌/◌, min, true, false, List, [], ◌∷◌, ◌++◌, map, Float, get_or, length, take, drop, replicate, Result, Ok, Err}
+use Rattle.std.specs.Prelude.{ℕ, ◌/◌, min, true, false, List, [], ◌∷◌, ◌++◌, map, Float, length, take, drop, replicate, Result, Ok, Err}
 use Rattle.base.specs.Bytes.{Bytes}
 use Rattle.base.specs.Choice.{pick}
 use Rattle.base.specs.Refusal.{refusal}
@@ -10,7 +10,8 @@ use Rattle.valid.specs.Valid.{tables_sound}
 use Rattle.valid.specs.declared.Counts.{Counts}
 use Rattle.cascade.specs.Sort.{sort}
 use Rattle.style.specs.declared.Settings.{Settings}
-use Rattle.order.specs.Keys.{Key, key_le}
+use Rattle.order.specs.declared.Key.{Key}
+use Rattle.order.specs.Keys.{key_at, key_le}
 use Rattle.drawing.specs.Gather.{Gathered, stopped, gathered, on-Gathered, gather_of}
 use Rattle.base.specs.declared.refusal.Refusal.{Refusal}
 
@@ -22,9 +23,9 @@ room_of len = min 4096 (len / 3)
 abbrev pub entry_words : Key → List ℕ
 entry_words k = word k.stream ∷ word k.place ∷ word k.styled ∷ []
 
--- the entry of key i, of which it needs only the words
-abbrev pub entry_at : List ℕ → ℕ → List ℕ
-entry_at words i = word (get_or words (i * 5 + 2) 0) ∷ word (get_or words (i * 5 + 3) 0) ∷ word (get_or words (i * 5 + 4) 0) ∷ []
+-- the entry of key i
+abbrev pub entry_at : List Key → ℕ → List ℕ
+entry_at keys i = entry_words (key_at keys i)
 
 abbrev pub entries_of : List Key → List ℕ
 entries_of ks = flat (map entry_words ks)

@@ -1,47 +1,39 @@
-// The keys of drawing lists: a layer and a z-index, and five words, for each entry.
-ghost use Rattle.std.specs.Prelude.{◌≡◌, [], ◌∷◌, ◌++◌, ◌+◌, ◌≤◌, ◌<◌, length};
+// The keys of an entity's styled layers.
+ghost use Rattle.std.specs.Prelude.{◌≡◌, [], ◌≤◌, length};
 ghost use Rattle.styles.specs.Styles.{styled_rows};
-ghost use Rattle.drawing.specs.Gather.{gathered, keys_at, told, IsBounded, layer_rank, fill_rank, stream_rank, key_of, keys_from, any_nan, push};
+ghost use Rattle.drawing.specs.Gather.{gathered, told, IsBounded, layer_rank, fill_rank, stream_rank, key_of, keys_from, any_nan, push};
 
 use base::refusal::{DRAW_LIST_FULL, Refusal};
 use base::word_at;
+use entity::EntityRange;
+use order::Key;
 use style::{is_foreground_fill, z_index};
 use styles::parts::row_of;
+use table::Tables;
 use walk::names::is_layer;
 
-// Stores the key of layer i of a table of maps, which is styled layer k of its entity, behind the first n.
+// Stores the key of layer i of a table of maps, which is styled layer k of its entity.
 fn put_key(
-    bundle: &[u8],
-    properties: &[u32],
-    numbers: &[f64],
+    tables: &Tables,
     for_labels: bool,
     multipolygons: bool,
     place: usize,
-    kind: u8,
-    id: u64,
+    e: EntityRange,
     layer: Option<i64>,
     maps: &[u32; 4323],
     k: usize,
     i: usize,
-    layers: &mut [i64],
-    zs: &mut [f64],
-    words: &mut [u64],
-    n: usize,
+    key: &mut Key,
 )
-    requires { (n < 4096) × (length layers.old ≡ 4096) × (length zs.old ≡ 4096) × (length words.old ≡ 20480) }
-    ensures { keys_at layers.new zs.new words.new (n + 1) ≡ keys_at layers.old zs.old words.old n ++ (key_of bundle.now properties.now numbers.now for_labels multipolygons place kind id layer maps.now k i ∷ []) }
+    ensures { key.new ≡ key_of tables.now.bundle.now tables.now.properties.now tables.now.numbers.now for_labels multipolygons place e.kind e.id layer maps.now k i }
 {
-    layers[n] = layer_rank(layer);
-    zs[n] = z_index(bundle, properties, numbers, row_of(maps, i), kind);
-    let at = n * 5;
-    words[at] = fill_rank(
-        for_labels,
-        is_foreground_fill(bundle, properties, numbers, row_of(maps, i)),
-    );
-    words[at + 1] = id;
-    words[at + 2] = stream_rank(multipolygons);
-    words[at + 3] = place as u64;
-    words[at + 4] = k as u64;
+    key.layer = layer_rank(layer);
+    key.fill = fill_rank(for_labels, is_foreground_fill(tables, row_of(maps, i)));
+    key.z_index = z_index(tables, row_of(maps, i), e.kind);
+    key.id = e.id;
+    key.stream = stream_rank(multipolygons);
+    key.place = place as u64;
+    key.styled = k as u64;
 }
 
 // A layer that is absent counts as 0.
@@ -52,6 +44,7 @@ fn layer_rank(layer: Option<i64>) -> i64
     layer.unwrap_or(0)
 }
 
+#[tactic(auto, unfolding(crate::specs::Gather::fill_rank, base::specs::Choice::pick))]
 fn fill_rank(for_labels: bool, foreground: bool) -> u64
     ensures { result ≡ fill_rank for_labels foreground }
 {
@@ -64,6 +57,7 @@ fn fill_rank(for_labels: bool, foreground: bool) -> u64
     0
 }
 
+#[tactic(auto, unfolding(crate::specs::Gather::stream_rank, base::specs::Choice::pick))]
 fn stream_rank(multipolygons: bool) -> u64
     ensures { result ≡ stream_rank multipolygons }
 {
@@ -71,23 +65,20 @@ fn stream_rank(multipolygons: bool) -> u64
 }
 
 // Whether the z-index of a styled layer, of the first m of a table of maps, is NaN.
-pub fn any_nan(
-    bundle: &[u8],
-    selectors: &[u32],
-    properties: &[u32],
-    numbers: &[f64],
-    maps: &[u32; 4323],
-    m: usize,
-    kind: u8,
-) -> bool
+pub fn any_nan(tables: &Tables, maps: &[u32; 4323], m: usize, kind: u8) -> bool
     requires { m ≤ 32 }
-    ensures { result ≡ any_nan bundle.now properties.now numbers.now maps.now kind (styled_rows bundle.now selectors.now maps.now m) }
+    ensures { result ≡ any_nan tables.now.bundle.now tables.now.properties.now tables.now.numbers.now maps.now kind (styled_rows tables.now.bundle.now tables.now.selectors.now maps.now m) }
 {
     for i in 0..m {
-        if is_layer(bundle, selectors, word_at(&maps[..], i * 131), b"*") {
+        if is_layer(
+            tables.bundle,
+            tables.selectors,
+            word_at(&maps[..], i * 131),
+            b"*",
+        ) {
             continue;
         }
-        let z = z_index(bundle, properties, numbers, row_of(maps, i), kind);
+        let z = z_index(tables, row_of(maps, i), kind);
         if z != z {
             return true;
         }
@@ -95,57 +86,48 @@ pub fn any_nan(
     false
 }
 
-// Stores the keys of the styled layers of an entity behind the first n, where there is room for them.
+// Stores the keys of the styled layers of an entity, where there is room for them, and says how many.
 pub fn push_layers(
-    bundle: &[u8],
-    selectors: &[u32],
-    properties: &[u32],
-    numbers: &[f64],
+    tables: &Tables,
     for_labels: bool,
     multipolygons: bool,
     place: usize,
-    kind: u8,
-    id: u64,
+    e: EntityRange,
     layer: Option<i64>,
     maps: &[u32; 4323],
     m: usize,
-    room: usize,
-    layers: &mut [i64],
-    zs: &mut [f64],
-    words: &mut [u64],
-    n: usize,
+    keys: &mut [Key],
 ) -> Result<usize, Refusal>
-    requires { (m ≤ 32) × (n ≤ room) × (room ≤ 4096) × (length layers.old ≡ 4096) × (length zs.old ≡ 4096) × (length words.old ≡ 20480) }
-    ensures words_after { told result layers.new zs.new words.new ≡ push room (keys_at layers.old zs.old words.old n) (gathered (keys_from bundle.now properties.now numbers.now for_labels multipolygons place kind id layer maps.now 0 (styled_rows bundle.now selectors.now maps.now m))) }
-    ensures IsBounded { IsBounded room result }
+    requires { m ≤ 32 }
+    ensures keys_after { told result keys.new ≡ push (length keys.old) [] (gathered (keys_from tables.now.bundle.now tables.now.properties.now tables.now.numbers.now for_labels multipolygons place e.kind e.id layer maps.now 0 (styled_rows tables.now.bundle.now tables.now.selectors.now maps.now m))) }
+    ensures IsBounded { IsBounded (length keys.old) result }
 {
     let mut k: usize = 0;
     for i in 0..m {
-        if is_layer(bundle, selectors, word_at(&maps[..], i * 131), b"*") {
+        if is_layer(
+            tables.bundle,
+            tables.selectors,
+            word_at(&maps[..], i * 131),
+            b"*",
+        ) {
             continue;
         }
-        if room <= n + k {
+        if keys.len() <= k {
             return Err(Refusal::plain(DRAW_LIST_FULL));
         }
         put_key(
-            bundle,
-            properties,
-            numbers,
+            tables,
             for_labels,
             multipolygons,
             place,
-            kind,
-            id,
+            e,
             layer,
             maps,
             k,
             i,
-            layers,
-            zs,
-            words,
-            n + k,
+            &mut keys[k],
         );
         k += 1;
     }
-    Ok(n + k)
+    Ok(k)
 }

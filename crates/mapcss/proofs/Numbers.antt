@@ -26,7 +26,7 @@ use Rattle.style.specs.declared.Settings.{Settings}
 use Rattle.styles.specs.Styles.{no_styles, filled_layers, styles_from, styles_of}
 use Rattle.styles.specs.declared.EntityStyles.{EntityStyles}
 use Rattle.canvas.specs.Canvas.{canvas_of}
-use Rattle.order.specs.Keys.{Key}
+use Rattle.order.specs.declared.Key.{Key}
 use Rattle.drawing.specs.Gather.{Gathered, stopped, gathered, on-Gathered, keys_in, push, Spot, gather_turn, gather_of}
 use Rattle.drawing.specs.Lists.{listed, room_of, nodes_of, areas_of}
 use Rattle.mapcss.specs.Numbers.{OneOf, first, later, entity_numbers, list_numbers, canvas_numbers, MapsNumbers, StylesNumbers, NodesNumbers, AreasNumbers, CanvasNumbers}

@@ -15,6 +15,7 @@ ghost use Rattle.matching.specs.Matching.{fit_of, comparison_of, absent_of};
 
 use base::Range;
 use entity::EntityRange;
+use table::Tables;
 use tag_number::TagNumber;
 
 // The answer to one selector or test; Out is a reached numeric test on a tag number outside the exact range.
@@ -26,21 +27,12 @@ pub enum Fit {
 }
 
 // Whether selector i matches the entity at a zoom: its zooms, its type, then its tests in order.
-pub fn matches(
-    bundle: &[u8],
-    selectors: &[u32],
-    tests: &[u32],
-    numbers: &[f64],
-    zoom: u8,
-    entity: &[u8],
-    e: EntityRange,
-    i: usize,
-) -> Fit
-    ensures { result ≡ fit_of (verdict zoom (value_of entity.now e) (selector_in bundle.now selectors.now tests.now numbers.now i)) }
+pub fn matches(tables: &Tables, zoom: u8, entity: &[u8], e: EntityRange, i: usize) -> Fit
+    ensures { result ≡ fit_of (verdict zoom (value_of entity.now e) (selector_in tables.now.bundle.now tables.now.selectors.now tables.now.tests.now tables.now.numbers.now i)) }
 {
-    if fits_zoom(selectors, i, zoom) {
-        if fits_type(table::word_of(selectors, i, 0), e.kind) {
-            return tests_fit(bundle, tests, numbers, entity, e, range_of(selectors, i, 3));
+    if fits_zoom(tables.selectors, i, zoom) {
+        if fits_type(table::word_of(tables.selectors, i, 0), e.kind) {
+            return tests_fit(tables, entity, e, range_of(tables.selectors, i, 3));
         }
         return Fit::Misses;
     }
@@ -77,18 +69,11 @@ fn fits_type(kind: usize, of: u8) -> bool
 }
 
 // The tests of a range, up to the first that does not hold.
-fn tests_fit(
-    bundle: &[u8],
-    tests: &[u32],
-    numbers: &[f64],
-    entity: &[u8],
-    e: EntityRange,
-    range: Range,
-) -> Fit
-    ensures { result ≡ fit_of (tests_verdict (value_of entity.now e) (map (test_at bundle.now tests.now numbers.now) (places_in range))) }
+fn tests_fit(tables: &Tables, entity: &[u8], e: EntityRange, range: Range) -> Fit
+    ensures { result ≡ fit_of (tests_verdict (value_of entity.now e) (map (test_at tables.now.bundle.now tables.now.tests.now tables.now.numbers.now) (places_in range))) }
 {
     for k in range.from..range.to {
-        match test_fits(bundle, tests, numbers, entity, e, k) {
+        match test_fits(tables, entity, e, k) {
             Fit::Out => return Fit::Out,
             Fit::Misses => return Fit::Misses,
             Fit::Fits => {}
@@ -98,29 +83,22 @@ fn tests_fit(
 }
 
 // Test i, on the tag that it names.
-fn test_fits(
-    bundle: &[u8],
-    tests: &[u32],
-    numbers: &[f64],
-    entity: &[u8],
-    e: EntityRange,
-    i: usize,
-) -> Fit
-    ensures { result ≡ fit_of (verdict_on (value_of entity.now e) (test_at bundle.now tests.now numbers.now i)) }
+fn test_fits(tables: &Tables, entity: &[u8], e: EntityRange, i: usize) -> Fit
+    ensures { result ≡ fit_of (verdict_on (value_of entity.now e) (test_at tables.now.bundle.now tables.now.tests.now tables.now.numbers.now i)) }
 {
-    match tag_of(bundle, tests, entity, e, i) {
-        None => absent_fits(table::word_of(tests, i, 0)),
-        Some(v) => value_fits(bundle, tests, numbers, i, base::part(entity, v)),
+    match tag_of(tables, entity, e, i) {
+        None => absent_fits(table::word_of(tables.tests, i, 0)),
+        Some(v) => value_fits(tables, i, base::part(entity, v)),
     }
 }
 
 // The value of the tag that test i names.
-fn tag_of(bundle: &[u8], tests: &[u32], entity: &[u8], e: EntityRange, i: usize) -> Option<Range>
-    ensures { result ≡ value_in entity.now (key_at bundle.now tests.now i) (pairs_at e.count entity.now e.tags) }
+fn tag_of(tables: &Tables, entity: &[u8], e: EntityRange, i: usize) -> Option<Range>
+    ensures { result ≡ value_in entity.now (key_at tables.now.bundle.now tables.now.tests.now i) (pairs_at e.count entity.now e.tags) }
 {
-    let first = base::part(bundle, range_of(tests, i, 1));
-    if table::word_of(tests, i, 3) == 1 {
-        let second = base::part(bundle, range_of(tests, i, 4));
+    let first = base::part(tables.bundle, range_of(tables.tests, i, 1));
+    if table::word_of(tables.tests, i, 3) == 1 {
+        let second = base::part(tables.bundle, range_of(tables.tests, i, 4));
         return reader::get_by_joined_key(entity, e.tags, e.count, first, second);
     }
     reader::get_by_key(entity, e.tags, e.count, first)
@@ -140,20 +118,20 @@ fn absent_fits(kind: usize) -> Fit
 }
 
 // Test i on a tag's value.
-fn value_fits(bundle: &[u8], tests: &[u32], numbers: &[f64], i: usize, v: &[u8]) -> Fit
-    ensures { result ≡ fit_of (test_verdict (test_at bundle.now tests.now numbers.now i) (some v.now)) }
+fn value_fits(tables: &Tables, i: usize, v: &[u8]) -> Fit
+    ensures { result ≡ fit_of (test_verdict (test_at tables.now.bundle.now tables.now.tests.now tables.now.numbers.now i) (some v.now)) }
 {
-    let kind = table::word_of(tests, i, 0);
+    let kind = table::word_of(tables.tests, i, 0);
     match kind {
         1 => Fit::Fits,
         2 => Fit::Misses,
         3 => fit_of(is_true(v)),
         4 => fit_of(!is_true(v)),
-        5 => fit_of(base::same_bytes(v, base::part(bundle, range_of(tests, i, 6)))),
-        6 => fit_of(!base::same_bytes(v, base::part(bundle, range_of(tests, i, 6)))),
-        7 => fit_of(digits::is_digits_of(v, number_of(tests, numbers, i))),
-        8 => fit_of(!digits::is_digits_of(v, number_of(tests, numbers, i))),
-        _ => number_fits(kind, number_of(tests, numbers, i), v),
+        5 => fit_of(base::same_bytes(v, base::part(tables.bundle, range_of(tables.tests, i, 6)))),
+        6 => fit_of(!base::same_bytes(v, base::part(tables.bundle, range_of(tables.tests, i, 6)))),
+        7 => fit_of(digits::is_digits_of(v, number_of(tables, i))),
+        8 => fit_of(!digits::is_digits_of(v, number_of(tables, i))),
+        _ => number_fits(kind, number_of(tables, i), v),
     }
 }
 
@@ -200,10 +178,10 @@ fn compare(kind: usize, x: f64, y: f64) -> bool
 }
 
 // The number of test i.
-fn number_of(tests: &[u32], numbers: &[f64], i: usize) -> f64
-    ensures { result ≡ get_or numbers.now (word_at tests.now i 6) zero_float }
+fn number_of(tables: &Tables, i: usize) -> f64
+    ensures { result ≡ get_or tables.now.numbers.now (word_at tables.now.tests.now i 6) zero_float }
 {
-    base::float_at(numbers, table::word_of(tests, i, 6))
+    base::float_at(tables.numbers, table::word_of(tables.tests, i, 6))
 }
 
 // Words j and j + 1 of entry i, as a range.

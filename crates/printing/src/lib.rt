@@ -9,6 +9,7 @@ ghost use Rattle.printing.specs.Plate.{plate, room, five_of, loaded_plate, plate
 
 use base::refusal::{BUNDLE_LAYOUT, Refusal};
 use base::{Range, zero_floats, zero_words};
+use table::Tables;
 use valid::Counts;
 
 // Reads the input's entity in the input's sheet: the answer, and what is left in the lent tables, are those of specs/Plate.antt.
@@ -120,18 +121,15 @@ fn styled(
             Err(e)
         }
         Ok(n) => {
-            let k = walk::property_maps(
+            let tables = Tables {
                 bundle,
-                &rules[..],
-                &selectors[..],
-                &tests[..],
-                &properties[..],
-                &numbers[..],
-                five_of(n),
-                zoom,
-                entity,
-                maps,
-            )?;
+                rules: &rules[..],
+                selectors: &selectors[..],
+                tests: &tests[..],
+                properties: &properties[..],
+                numbers: &numbers[..],
+            };
+            let k = walk::property_maps(&tables, five_of(n), zoom, entity, maps)?;
             Ok((b, k))
         }
     }

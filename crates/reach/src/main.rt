@@ -8,7 +8,7 @@ use color::Color;
 use std::io;
 use stdio::cases::bits_of;
 use stdio::line;
-use table::PropertyValue;
+use table::{PropertyValue, Tables};
 use valid::Counts;
 
 // Properties or a style written out: how many words; then what they hold, and no place in a bundle or a table.
@@ -73,13 +73,21 @@ fn ask(bundle: &[u8], entity: &[u8]) -> Given {
     let mut m = [0u32; 4323];
     let l = parser::load(bundle, &mut r, &mut s, &mut t, &mut p, &mut x, &mut q);
     let n = counts_of(l);
-    let k = walk::property_maps(bundle, &r, &s, &t, &p, &x, n, 13, entity, &mut m).unwrap_or(0);
+    let tables = Tables {
+        bundle,
+        rules: &r,
+        selectors: &s,
+        tests: &t,
+        properties: &p,
+        numbers: &x,
+    };
+    let k = walk::property_maps(&tables, n, 13, entity, &mut m).unwrap_or(0);
     let settings = style::Settings {
         style_type: style::StyleType::Josm,
         font_multiplier: None,
         for_labels: false,
     };
-    let all = styles::entity_styles(bundle, &r, &s, &t, &p, &x, n, 13, settings, entity);
+    let all = styles::entity_styles(&tables, n, 13, settings, entity);
     let c = properties_of(bundle, &s, &p, &x, &m, b"c");
     let c_style = style_of(bundle, &s, &all, b"c");
     let default = properties_of(bundle, &s, &p, &x, &m, b"default");

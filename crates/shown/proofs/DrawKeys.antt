@@ -34,7 +34,8 @@ use Rattle.maps.specs.Held.{answer_held}
 use Rattle.style.specs.Get.{number_of}
 use Rattle.style.specs.declared.Settings.{Settings}
 use Rattle.styles.specs.Styles.{styled_rows}
-use Rattle.order.specs.Keys.{Key, key_le}
+use Rattle.order.specs.declared.Key.{Key}
+use Rattle.order.specs.Keys.{key_le}
 use Rattle.drawing.specs.Gather.{Gathered, stopped, gathered, layer_rank, fill_rank, stream_rank, z_of, key_of, keys_from, any_nan, keys_in, push}
 use Rattle.shown.specs.Style.{settings_shown, properties_of}
 use Rattle.shown.proofs.StyleIs.{found, number_at_lem, foreground_at, z_is}

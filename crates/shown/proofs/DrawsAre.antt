@@ -12,7 +12,8 @@ use Rattle.cascade.specs.Draw.{Drawn, Drawing, declined, entries, not_after, joi
 use Rattle.cascade.proofs.DrawProof.{join_nil}
 use Rattle.cascade.specs.Sort.{sort}
 use Rattle.walk.proofs.WalkLaws.{rules_few}
-use Rattle.order.specs.Keys.{Key, key_le}
+use Rattle.order.specs.declared.Key.{Key}
+use Rattle.order.specs.Keys.{key_le}
 use Rattle.drawing.specs.Gather.{Gathered, stopped, gathered, on-Gathered, gather_of}
 use Rattle.drawing.specs.Lists.{room_of, listed, ordered, nodes_of, areas_of}
 use Rattle.shown.specs.Style.{settings_shown}

@@ -1,13 +1,19 @@
--- The only number of a range of the table of numbers, cut to the table, by how many it has.
+-- What is there, else a default; and the only number of a range of the table of numbers, cut to the table, by how many it has.
 use Prim.Native.Nat.{ℕ, suc, ◌-◌, ◌≤◌, ◌<◌}
 use native.Mathlib.Omega.{arith}
-use mathlib.Core.Path.{◌≡◌}
+use mathlib.Core.Path.{◌≡◌, refl}
 use mathlib.Core.List.{List, [], ◌∷◌}
 use lib.Ieee.{Float, nan}
 use lib.ListN.{length, take, drop, get_or, drop_of_length-le}
 use lib.Seq.{take_all, take-nil, drop-cons}
 use Rattle.style.specs.Get.{one_of}
-use Rattle.std.specs.Prelude.{Option, Some, None}
+use Rattle.std.specs.Prelude.{Option, Some, None, unwrap_or}
+use Rattle.base.specs.Option.{on_option}
+
+pub or_else : (m : Option Float) (d : Float) → unwrap_or m d ≡ on_option m d (λ w. w)
+unfolding on_option
+or_else None d = refl
+or_else (Some w) d = refl
 
 module _ (numbers : List Float) (from to : ℕ) where
   abbrev pub read : Option Float

@@ -6,125 +6,67 @@ ghost use Rattle.style.specs.Style.{color_in, number_in, delta_in, dashes_in, te
 use crate::{LineCap, TextPosition};
 use base::Range;
 use color::Color;
-use table::{Name, PropertyValue};
+use table::{Name, PropertyValue, Tables};
 
 // The property of a name in a row of property numbers.
-fn get(
-    bundle: &[u8],
-    properties: &[u32],
-    numbers: &[f64],
-    row: &[u32],
-    name: &[u8],
-) -> Option<PropertyValue>
-    ensures { result ≡ property_in bundle.now properties.now numbers.now row.now name.now }
+fn get(tables: &Tables, row: &[u32], name: &[u8]) -> Option<PropertyValue>
+    ensures { result ≡ property_in tables.now.bundle.now tables.now.properties.now tables.now.numbers.now row.now name.now }
 {
-    let i = walk::names::find_name(bundle, properties, row, name);
+    let i = walk::names::find_name(tables.bundle, tables.properties, row, name);
     if i < row.len() {
         let p = row[i] as usize;
-        return Some(table::property_value(properties, numbers, p));
+        return Some(table::property_value(tables.properties, tables.numbers, p));
     }
     None
 }
 
-pub fn get_color(
-    bundle: &[u8],
-    properties: &[u32],
-    numbers: &[f64],
-    row: &[u32],
-    name: &[u8],
-) -> Option<Color>
-    ensures { result ≡ color_in bundle.now properties.now numbers.now row.now name.now }
+pub fn get_color(tables: &Tables, row: &[u32], name: &[u8]) -> Option<Color>
+    ensures { result ≡ color_in tables.now.bundle.now tables.now.properties.now tables.now.numbers.now row.now name.now }
 {
-    color_of(bundle, get(bundle, properties, numbers, row, name))
+    color_of(tables.bundle, get(tables, row, name))
 }
 
-pub fn get_num(
-    bundle: &[u8],
-    properties: &[u32],
-    numbers: &[f64],
-    row: &[u32],
-    name: &[u8],
-) -> Option<f64>
-    ensures { result ≡ number_in bundle.now properties.now numbers.now row.now name.now }
+pub fn get_num(tables: &Tables, row: &[u32], name: &[u8]) -> Option<f64>
+    ensures { result ≡ number_in tables.now.bundle.now tables.now.properties.now tables.now.numbers.now row.now name.now }
 {
-    number_of(numbers, get(bundle, properties, numbers, row, name))
+    number_of(tables.numbers, get(tables, row, name))
 }
 
-pub fn get_delta(
-    bundle: &[u8],
-    properties: &[u32],
-    numbers: &[f64],
-    row: &[u32],
-    name: &[u8],
-) -> Option<f64>
-    ensures { result ≡ delta_in bundle.now properties.now numbers.now row.now name.now }
+pub fn get_delta(tables: &Tables, row: &[u32], name: &[u8]) -> Option<f64>
+    ensures { result ≡ delta_in tables.now.bundle.now tables.now.properties.now tables.now.numbers.now row.now name.now }
 {
-    delta_of(get(bundle, properties, numbers, row, name))
+    delta_of(get(tables, row, name))
 }
 
-pub fn get_string(
-    bundle: &[u8],
-    properties: &[u32],
-    numbers: &[f64],
-    row: &[u32],
-    name: &[u8],
-) -> Option<Name>
-    ensures { result ≡ text_in bundle.now properties.now numbers.now row.now name.now }
+pub fn get_string(tables: &Tables, row: &[u32], name: &[u8]) -> Option<Name>
+    ensures { result ≡ text_in tables.now.bundle.now tables.now.properties.now tables.now.numbers.now row.now name.now }
 {
-    text_of(get(bundle, properties, numbers, row, name))
+    text_of(get(tables, row, name))
 }
 
-pub fn get_line_cap(
-    bundle: &[u8],
-    properties: &[u32],
-    numbers: &[f64],
-    row: &[u32],
-    name: &[u8],
-) -> Option<LineCap>
-    ensures { result ≡ cap_in bundle.now properties.now numbers.now row.now name.now }
+pub fn get_line_cap(tables: &Tables, row: &[u32], name: &[u8]) -> Option<LineCap>
+    ensures { result ≡ cap_in tables.now.bundle.now tables.now.properties.now tables.now.numbers.now row.now name.now }
 {
-    cap_named(word_of(bundle, get(bundle, properties, numbers, row, name)))
+    cap_named(word_of(tables.bundle, get(tables, row, name)))
 }
 
-pub fn get_text_position(
-    bundle: &[u8],
-    properties: &[u32],
-    numbers: &[f64],
-    row: &[u32],
-    name: &[u8],
-) -> Option<TextPosition>
-    ensures { result ≡ position_in bundle.now properties.now numbers.now row.now name.now }
+pub fn get_text_position(tables: &Tables, row: &[u32], name: &[u8]) -> Option<TextPosition>
+    ensures { result ≡ position_in tables.now.bundle.now tables.now.properties.now tables.now.numbers.now row.now name.now }
 {
-    position_named(word_of(bundle, get(bundle, properties, numbers, row, name)))
+    position_named(word_of(tables.bundle, get(tables, row, name)))
 }
 
-pub fn get_dashes(
-    bundle: &[u8],
-    properties: &[u32],
-    numbers: &[f64],
-    row: &[u32],
-    name: &[u8],
-) -> Option<Range>
-    ensures { result ≡ dashes_in bundle.now properties.now numbers.now row.now name.now }
+pub fn get_dashes(tables: &Tables, row: &[u32], name: &[u8]) -> Option<Range>
+    ensures { result ≡ dashes_in tables.now.bundle.now tables.now.properties.now tables.now.numbers.now row.now name.now }
 {
-    dashes_of(get(bundle, properties, numbers, row, name))
+    dashes_of(get(tables, row, name))
 }
 
 // Whether the property of a name is this identifier.
-pub fn is_word(
-    bundle: &[u8],
-    properties: &[u32],
-    numbers: &[f64],
-    row: &[u32],
-    name: &[u8],
-    word: &[u8],
-) -> bool
-    ensures { result ≡ is_word_in bundle.now properties.now numbers.now row.now name.now word.now }
+pub fn is_word(tables: &Tables, row: &[u32], name: &[u8], word: &[u8]) -> bool
+    ensures { result ≡ is_word_in tables.now.bundle.now tables.now.properties.now tables.now.numbers.now row.now name.now word.now }
 {
-    base::same_bytes(
-        word_of(bundle, get(bundle, properties, numbers, row, name)),
-        word,
-    )
+    base::same_bytes(word_of(tables.bundle, get(tables, row, name)), word)
 }
 
 fn color_of(bundle: &[u8], p: Option<PropertyValue>) -> Option<Color>

@@ -2,14 +2,14 @@
 #![tactic(auto)]
 
 ghost use Rattle.std.specs.Prelude.{◌≡◌};
-ghost use Rattle.style.specs.Style.{default_z, casing_multiplier, base_width, width_or_zero, casing_only, full_casing, casing_width, multiplier_of, font_size, text_style_in, z_index_in, foreground_in, style_at};
+ghost use Rattle.style.specs.Style.{default_z, casing_multiplier, width_or_zero, casing_only, full_casing, casing_width, font_size, text_style_in, z_index_in, foreground_in, style_at};
 
 use base::Range;
 use color::Color;
 use get::{
     get_color, get_dashes, get_delta, get_line_cap, get_num, get_string, get_text_position, is_word,
 };
-use table::Name;
+use table::{Name, Tables};
 
 pub mod get;
 
@@ -74,52 +74,40 @@ pub struct Style {
 // The style of a layer with the properties of a row, for an entity of a kind and with a tag `layer`; the default layer's width, or 0,
 // is the one that a casing falls back on. crates/shown restates the promise as the style of the theory.
 pub fn property_map_to_style(
-    bundle: &[u8],
-    properties: &[u32],
-    numbers: &[f64],
+    tables: &Tables,
     row: &[u32],
     kind: u8,
     layer: Option<i64>,
     default_width: f64,
     settings: Settings,
 ) -> Style
-    ensures { result ≡ style_at bundle.now properties.now numbers.now row.now kind layer default_width settings }
+    ensures { result ≡ style_at tables.now.bundle.now tables.now.properties.now tables.now.numbers.now row.now kind layer default_width settings }
 {
-    let opacity = get_num(bundle, properties, numbers, row, b"opacity");
-    let fill_opacity = get_num(bundle, properties, numbers, row, b"fill-opacity");
-    let width = get_num(bundle, properties, numbers, row, b"width");
-    let base = base_width(width, default_width);
+    let opacity = get_num(tables, row, b"opacity");
+    let fill_opacity = get_num(tables, row, b"fill-opacity");
+    let width = get_num(tables, row, b"width");
+    let base = width.unwrap_or(default_width);
     let style_type = settings.style_type;
-    let casing = casing_width(bundle, properties, numbers, row, base, style_type);
+    let casing = casing_width(tables, row, base, style_type);
     Style {
         layer,
-        z_index: z_index(bundle, properties, numbers, row, kind),
-        color: get_color(bundle, properties, numbers, row, b"color"),
-        fill_color: get_color(bundle, properties, numbers, row, b"fill-color"),
-        is_foreground_fill: is_foreground_fill(bundle, properties, numbers, row),
-        background_color: get_color(bundle, properties, numbers, row, b"background-color"),
+        z_index: z_index(tables, row, kind),
+        color: get_color(tables, row, b"color"),
+        fill_color: get_color(tables, row, b"fill-color"),
+        is_foreground_fill: is_foreground_fill(tables, row),
+        background_color: get_color(tables, row, b"background-color"),
         opacity,
         fill_opacity,
         width,
-        dashes: get_dashes(bundle, properties, numbers, row, b"dashes"),
-        line_cap: get_line_cap(bundle, properties, numbers, row, b"linecap"),
-        casing_color: get_color(bundle, properties, numbers, row, b"casing-color"),
+        dashes: get_dashes(tables, row, b"dashes"),
+        line_cap: get_line_cap(tables, row, b"linecap"),
+        casing_color: get_color(tables, row, b"casing-color"),
         casing_width: casing,
-        casing_dashes: get_dashes(bundle, properties, numbers, row, b"casing-dashes"),
-        casing_line_cap: get_line_cap(bundle, properties, numbers, row, b"casing-linecap"),
-        icon_image: get_string(bundle, properties, numbers, row, b"icon-image"),
-        fill_image: get_string(bundle, properties, numbers, row, b"fill-image"),
-        text_style: text_style(bundle, properties, numbers, row, settings),
-    }
-}
-
-// The width that a casing goes around: the layer's, else the default layer's.
-fn base_width(width: Option<f64>, default_width: f64) -> f64
-    ensures { result ≡ base_width width default_width }
-{
-    match width {
-        None => default_width,
-        Some(w) => w,
+        casing_dashes: get_dashes(tables, row, b"casing-dashes"),
+        casing_line_cap: get_line_cap(tables, row, b"casing-linecap"),
+        icon_image: get_string(tables, row, b"icon-image"),
+        fill_image: get_string(tables, row, b"fill-image"),
+        text_style: text_style(tables, row, settings),
     }
 }
 
@@ -127,25 +115,15 @@ fn base_width(width: Option<f64>, default_width: f64) -> f64
 pub fn width_or_zero(width: Option<f64>) -> f64
     ensures { result ≡ width_or_zero width }
 {
-    match width {
-        None => 0.0,
-        Some(w) => w,
-    }
+    width.unwrap_or(0.0)
 }
 
 // The full casing width.
-fn casing_width(
-    bundle: &[u8],
-    properties: &[u32],
-    numbers: &[f64],
-    row: &[u32],
-    base: f64,
-    style_type: StyleType,
-) -> Option<f64>
-    ensures { result ≡ casing_width bundle.now properties.now numbers.now row.now base style_type }
+fn casing_width(tables: &Tables, row: &[u32], base: f64, style_type: StyleType) -> Option<f64>
+    ensures { result ≡ casing_width tables.now.bundle.now tables.now.properties.now tables.now.numbers.now row.now base style_type }
 {
-    let one = get_num(bundle, properties, numbers, row, b"casing-width");
-    let delta = get_delta(bundle, properties, numbers, row, b"casing-width");
+    let one = get_num(tables, row, b"casing-width");
+    let delta = get_delta(tables, row, b"casing-width");
     full_casing(
         casing_multiplier(style_type),
         base,
@@ -183,13 +161,10 @@ fn full_casing(multiplier: f64, base: f64, m: Option<f64>) -> Option<f64>
 }
 
 // The z-index of a layer, for an entity of a kind.
-pub fn z_index(bundle: &[u8], properties: &[u32], numbers: &[f64], row: &[u32], kind: u8) -> f64
-    ensures { result ≡ z_index_in bundle.now properties.now numbers.now row.now kind }
+pub fn z_index(tables: &Tables, row: &[u32], kind: u8) -> f64
+    ensures { result ≡ z_index_in tables.now.bundle.now tables.now.properties.now tables.now.numbers.now row.now kind }
 {
-    match get_num(bundle, properties, numbers, row, b"z-index") {
-        None => default_z_index(kind),
-        Some(z) => z,
-    }
+    get_num(tables, row, b"z-index").unwrap_or(default_z_index(kind))
 }
 
 fn default_z_index(kind: u8) -> f64
@@ -205,29 +180,16 @@ fn default_z_index(kind: u8) -> f64
 }
 
 // Whether a layer's fill is drawn in the foreground.
-pub fn is_foreground_fill(bundle: &[u8], properties: &[u32], numbers: &[f64], row: &[u32]) -> bool
-    ensures { result ≡ foreground_in bundle.now properties.now numbers.now row.now }
+pub fn is_foreground_fill(tables: &Tables, row: &[u32]) -> bool
+    ensures { result ≡ foreground_in tables.now.bundle.now tables.now.properties.now tables.now.numbers.now row.now }
 {
-    !is_word(
-        bundle,
-        properties,
-        numbers,
-        row,
-        b"fill-position",
-        b"background",
-    )
+    !is_word(tables, row, b"fill-position", b"background")
 }
 
-fn text_style(
-    bundle: &[u8],
-    properties: &[u32],
-    numbers: &[f64],
-    row: &[u32],
-    settings: Settings,
-) -> TextStyle
-    ensures { result ≡ text_style_in bundle.now properties.now numbers.now row.now settings }
+fn text_style(tables: &Tables, row: &[u32], settings: Settings) -> TextStyle
+    ensures { result ≡ text_style_in tables.now.bundle.now tables.now.properties.now tables.now.numbers.now row.now settings }
 {
-    match get_string(bundle, properties, numbers, row, b"text") {
+    match get_string(tables, row, b"text") {
         None => TextStyle {
             text: None,
             text_color: None,
@@ -235,20 +197,11 @@ fn text_style(
             font_size: None,
         },
         Some(t) => {
-            let size = font_size(
-                get_num(bundle, properties, numbers, row, b"font-size"),
-                settings,
-            );
+            let size = font_size(get_num(tables, row, b"font-size"), settings);
             TextStyle {
                 text: Some(t),
-                text_color: get_color(bundle, properties, numbers, row, b"text-color"),
-                text_position: get_text_position(
-                    bundle,
-                    properties,
-                    numbers,
-                    row,
-                    b"text-position",
-                ),
+                text_color: get_color(tables, row, b"text-color"),
+                text_position: get_text_position(tables, row, b"text-position"),
                 font_size: size,
             }
         }
@@ -259,14 +212,5 @@ fn font_size(m: Option<f64>, settings: Settings) -> Option<f64>
     ensures { result ≡ font_size m settings }
 {
     let x = m?;
-    Some(x * font_multiplier(settings))
-}
-
-fn font_multiplier(settings: Settings) -> f64
-    ensures { result ≡ multiplier_of settings }
-{
-    match settings.font_multiplier {
-        None => 1.0,
-        Some(k) => k,
-    }
+    Some(x * settings.font_multiplier.unwrap_or(1.0))
 }

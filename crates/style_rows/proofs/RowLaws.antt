@@ -5,7 +5,7 @@ use mathlib.Core.List.{List, [], ◌∷◌, ◌++◌, map, append_assoc, append-
 use native.Mathlib.Nat.{suc-mul}
 use native.Mathlib.Numerals.{add-one}
 use native.Mathlib.Omega.{arith}
-use lib.ListN.{get_or, length, set, take, drop, replicate, length-append, length-take, length-drop, length-replicate}
+use lib.ListN.{get_or, length, set, take, drop, replicate, length-append, length-take, length-drop, length-replicate, take-append-drop, drop_of_length-le}
 use lib.Seq.{set_at, take-suc, drop-cons, drop-drop}
 use Rattle.base.specs.Table.{padded, stored, flat}
 
@@ -28,114 +28,6 @@ module _ {A : Type 0} where
   -- the first 32 at most are all that is taken of 32
   pub take_most : (n : ℕ) (all : List A) → length all ≡ 32 → take (min n 32) all ≡ take n all
   take_most n all e = ap (λ (k : ℕ). take (min n k) all) (sym e) ∙ take_min n all
-
-  put :
-      (t : List A) (i j : ℕ) {u w : List A} (v : A) (vs : List A)
-      → u ≡ set t i v
-      → j ≡ i + 1
-      → w ≡ stored u j vs
-      → w ≡ stored t i (v ∷ vs)
-  put t i j {u} v vs e f g =
-      g ∙ ap (λ (j : ℕ). stored u j vs) f ∙ ap (λ (u : List A). stored u (i + 1) vs) e
-
-  pub three_stored :
-      (t0 : List A) (at : ℕ) {t1 t2 t3 : List A} (v0 v1 v2 : A)
-      → t1 ≡ set t0 at v0
-      → t2 ≡ set t1 (at + 1) v1
-      → t3 ≡ set t2 (at + 2) v2
-      → t3 ≡ stored t0 at (v0 ∷ v1 ∷ v2 ∷ [])
-  three_stored t0 at {t1} {t2} {t3} v0 v1 v2 e0 e1 e2 =
-      put t0 at (at + 1) v0 (v1 ∷ v2 ∷ []) e0 (omega arith)
-      (put t1 (at + 1) (at + 2) v1 (v2 ∷ []) e1 (omega arith)
-      (e2))
-
-  pub four_stored :
-      (t0 : List A) (at : ℕ) {t1 t2 t3 t4 : List A} (v0 v1 v2 v3 : A)
-      → t1 ≡ set t0 at v0
-      → t2 ≡ set t1 (at + 1) v1
-      → t3 ≡ set t2 (at + 2) v2
-      → t4 ≡ set t3 (at + 3) v3
-      → t4 ≡ stored t0 at (v0 ∷ v1 ∷ v2 ∷ v3 ∷ [])
-  four_stored t0 at {t1} {t2} {t3} {t4} v0 v1 v2 v3 e0 e1 e2 e3 =
-      put t0 at (at + 1) v0 (v1 ∷ v2 ∷ v3 ∷ []) e0 (omega arith)
-      (put t1 (at + 1) (at + 2) v1 (v2 ∷ v3 ∷ []) e1 (omega arith)
-      (put t2 (at + 2) (at + 3) v2 (v3 ∷ []) e2 (omega arith)
-      (e3)))
-
-  pub five_stored :
-      (t0 : List A) (at : ℕ) {t1 t2 t3 t4 t5 : List A} (v0 v1 v2 v3 v4 : A)
-      → t1 ≡ set t0 at v0
-      → t2 ≡ set t1 (at + 1) v1
-      → t3 ≡ set t2 (at + 2) v2
-      → t4 ≡ set t3 (at + 3) v3
-      → t5 ≡ set t4 (at + 4) v4
-      → t5 ≡ stored t0 at (v0 ∷ v1 ∷ v2 ∷ v3 ∷ v4 ∷ [])
-  five_stored t0 at {t1} {t2} {t3} {t4} {t5} v0 v1 v2 v3 v4 e0 e1 e2 e3 e4 =
-      put t0 at (at + 1) v0 (v1 ∷ v2 ∷ v3 ∷ v4 ∷ []) e0 (omega arith)
-      (put t1 (at + 1) (at + 2) v1 (v2 ∷ v3 ∷ v4 ∷ []) e1 (omega arith)
-      (put t2 (at + 2) (at + 3) v2 (v3 ∷ v4 ∷ []) e2 (omega arith)
-      (put t3 (at + 3) (at + 4) v3 (v4 ∷ []) e3 (omega arith)
-      (e4))))
-
-  pub six_stored :
-      (t0 : List A) (at : ℕ) {t1 t2 t3 t4 t5 t6 : List A} (v0 v1 v2 v3 v4 v5 : A)
-      → t1 ≡ set t0 at v0
-      → t2 ≡ set t1 (at + 1) v1
-      → t3 ≡ set t2 (at + 2) v2
-      → t4 ≡ set t3 (at + 3) v3
-      → t5 ≡ set t4 (at + 4) v4
-      → t6 ≡ set t5 (at + 5) v5
-      → t6 ≡ stored t0 at (v0 ∷ v1 ∷ v2 ∷ v3 ∷ v4 ∷ v5 ∷ [])
-  six_stored t0 at {t1} {t2} {t3} {t4} {t5} {t6} v0 v1 v2 v3 v4 v5 e0 e1 e2 e3 e4 e5 =
-      put t0 at (at + 1) v0 (v1 ∷ v2 ∷ v3 ∷ v4 ∷ v5 ∷ []) e0 (omega arith)
-      (put t1 (at + 1) (at + 2) v1 (v2 ∷ v3 ∷ v4 ∷ v5 ∷ []) e1 (omega arith)
-      (put t2 (at + 2) (at + 3) v2 (v3 ∷ v4 ∷ v5 ∷ []) e2 (omega arith)
-      (put t3 (at + 3) (at + 4) v3 (v4 ∷ v5 ∷ []) e3 (omega arith)
-      (put t4 (at + 4) (at + 5) v4 (v5 ∷ []) e4 (omega arith)
-      (e5)))))
-
-  pub eleven_stored :
-      (t0 : List A) (at : ℕ) {t1 t2 t3 t4 t5 t6 t7 t8 t9 t10 t11 : List A} (v0 v1 v2 v3 v4 v5 v6 v7 v8 v9 v10 : A)
-      → t1 ≡ set t0 at v0
-      → t2 ≡ set t1 (at + 1) v1
-      → t3 ≡ set t2 (at + 2) v2
-      → t4 ≡ set t3 (at + 3) v3
-      → t5 ≡ set t4 (at + 4) v4
-      → t6 ≡ set t5 (at + 5) v5
-      → t7 ≡ set t6 (at + 6) v6
-      → t8 ≡ set t7 (at + 7) v7
-      → t9 ≡ set t8 (at + 8) v8
-      → t10 ≡ set t9 (at + 9) v9
-      → t11 ≡ set t10 (at + 10) v10
-      → t11 ≡ stored t0 at (v0 ∷ v1 ∷ v2 ∷ v3 ∷ v4 ∷ v5 ∷ v6 ∷ v7 ∷ v8 ∷ v9 ∷ v10 ∷ [])
-  eleven_stored t0 at {t1} {t2} {t3} {t4} {t5} {t6} {t7} {t8} {t9} {t10} {t11} v0 v1 v2 v3 v4 v5 v6 v7 v8 v9 v10 e0 e1
-      e2 e3 e4 e5 e6 e7 e8 e9 e10 =
-      put t0 at (at + 1) v0 (v1 ∷ v2 ∷ v3 ∷ v4 ∷ v5 ∷ v6 ∷ v7 ∷ v8 ∷ v9 ∷ v10 ∷ []) e0 (omega arith)
-      (put t1 (at + 1) (at + 2) v1 (v2 ∷ v3 ∷ v4 ∷ v5 ∷ v6 ∷ v7 ∷ v8 ∷ v9 ∷ v10 ∷ []) e1 (omega arith)
-      (put t2 (at + 2) (at + 3) v2 (v3 ∷ v4 ∷ v5 ∷ v6 ∷ v7 ∷ v8 ∷ v9 ∷ v10 ∷ []) e2 (omega arith)
-      (put t3 (at + 3) (at + 4) v3 (v4 ∷ v5 ∷ v6 ∷ v7 ∷ v8 ∷ v9 ∷ v10 ∷ []) e3 (omega arith)
-      (put t4 (at + 4) (at + 5) v4 (v5 ∷ v6 ∷ v7 ∷ v8 ∷ v9 ∷ v10 ∷ []) e4 (omega arith)
-      (put t5 (at + 5) (at + 6) v5 (v6 ∷ v7 ∷ v8 ∷ v9 ∷ v10 ∷ []) e5 (omega arith)
-      (put t6 (at + 6) (at + 7) v6 (v7 ∷ v8 ∷ v9 ∷ v10 ∷ []) e6 (omega arith)
-      (put t7 (at + 7) (at + 8) v7 (v8 ∷ v9 ∷ v10 ∷ []) e7 (omega arith)
-      (put t8 (at + 8) (at + 9) v8 (v9 ∷ v10 ∷ []) e8 (omega arith)
-      (put t9 (at + 9) (at + 10) v9 (v10 ∷ []) e9 (omega arith)
-      (e10))))))))))
-
-  pub eleven_same :
-      (P : List A → List A) (v0 : A) {r1 r2 r3 r4 r5 r6 r7 r8 r9 r10 v1 v2 v3 v4 v5 v6 v7 v8 v9 v10 : A}
-      → r1 ≡ v1
-      → r2 ≡ v2
-      → r3 ≡ v3
-      → r4 ≡ v4
-      → r5 ≡ v5
-      → r6 ≡ v6
-      → r7 ≡ v7
-      → r8 ≡ v8
-      → r9 ≡ v9
-      → r10 ≡ v10
-      → P (v0 ∷ r1 ∷ r2 ∷ r3 ∷ r4 ∷ r5 ∷ r6 ∷ r7 ∷ r8 ∷ r9 ∷ r10 ∷ []) ≡ P (v0 ∷ v1 ∷ v2 ∷ v3 ∷ v4 ∷ v5 ∷ v6 ∷ v7 ∷ v8 ∷ v9 ∷ v10 ∷ [])
-  eleven_same P v0 e1 e2 e3 e4 e5 e6 e7 e8 e9 e10 = rw (e1, e2, e3, e4, e5, e6, e7, e8, e9, e10) refl
 
   pub stored_append :
       (t : List A) (i : ℕ) (xs ys : List A)
@@ -171,6 +63,32 @@ module _ {A : Type 0} where
       ap (λ (t : List A). stored t (i + 1) vs) (set_at p y q v i e ∙ sym (append_assoc p (v ∷ []) q))
       ∙ stored_at (p ++ (v ∷ [])) q (i + 1) vs l (omega arith)
       ∙ append_assoc p (v ∷ []) (vs ++ drop (length vs) q)
+
+  -- a part of the list overwritten is its elements stored
+  pub part_stored :
+      (t xs : List A) {us : List A} (at : ℕ)
+      → at + length xs ≤ length t
+      → us ≡ xs
+      → take at t ++ (us ++ drop (at + length xs - at) (drop at t)) ≡ stored t at xs
+  part_stored t xs at h e =
+      let n : at + length xs - at ≡ length xs = omega arith in
+      let l : length (take at t) ≡ at = length-take at t ∙ omega arith in
+      let q : length xs ≤ length (drop at t) = omega (arith, length-drop at t) in
+      ap (λ (us : List A). take at t ++ (us ++ drop (at + length xs - at) (drop at t))) e
+      ∙ ap (λ (k : ℕ). take at t ++ (xs ++ drop k (drop at t))) n
+      ∙ sym (stored_at (take at t) (drop at t) at xs l q)
+      ∙ ap (λ (t : List A). stored t at xs) (take-append-drop at t)
+
+  -- as many elements as the list has
+  pub all_stored : (t xs : List A) → length t ≡ length xs → stored t 0 xs ≡ xs
+  all_stored t xs h =
+      stored_at [] t 0 xs refl (omega arith)
+      ∙ ap (λ (r : List A). xs ++ r) (drop_of_length-le t (omega arith))
+      ∙ append-nil xs
+
+  -- what a call stored, by what another gave
+  pub stored_as : (t : List A) (at : ℕ) {w r vs : List A} → w ≡ stored t at r → r ≡ vs → w ≡ stored t at vs
+  stored_as t at e f = e ∙ ap (λ (vs : List A). stored t at vs) f
 
 module _ {A B : Type 0} (f : B → List A) where
   flat_snoc : (xs : List B) (x : B) → flat (map f (xs ++ (x ∷ []))) ≡ flat (map f xs) ++ f x

@@ -1,11 +1,11 @@
 // A styled layer in numbers, into lent tables of 32 rows.
 #![tactic(auto)]
 
-ghost use Rattle.std.specs.Prelude.{◌≡◌, [], ◌∷◌, map, ◌≤◌, min, pos, length, take};
+ghost use Rattle.std.specs.Prelude.{◌≡◌, map, ◌+◌, ◌≤◌, pos, length, take};
 ghost use Rattle.base.specs.Table.{zero_float, padded, stored, flat};
 ghost use Rattle.style_rows.specs.Rows.{flag, has_number, float_number, cap_number, position_number, layer_number, has_layer, color_numbers, dash_numbers, text_numbers, scalars, row_words, row_floats, row_layer};
 
-use base::{Range, set_float, set_long};
+use base::Range;
 use color::Color;
 use style::{LineCap, TextPosition};
 use styles::StyledLayer;
@@ -23,49 +23,23 @@ pub fn store_layers(
     ensures floats_after { floats.new ≡ padded zero_float 192 (flat (map row_floats (take n all))) }
     ensures layers_after { layers.new ≡ padded (pos 0) 32 (map row_layer (take n all)) }
 {
-    let m = at_most(n);
-    fill_words(all, m, &mut words[..]);
-    fill_floats(all, m, &mut floats[..]);
-    fill_layers(all, m, &mut layers[..]);
-}
-
-fn at_most(n: usize) -> usize
-    ensures { result ≡ min n 32 }
-{
-    if n <= 32 { n } else { 32 }
-}
-
-fn fill_words(all: [StyledLayer; 32], n: usize, words: &mut [u64])
-    requires n_bound { n ≤ 32 }
-    requires words_len { length words.old ≡ 1664 }
-    ensures { words.new ≡ padded 0 1664 (flat (map row_words (take n all))) }
-{
     words.fill(0);
-    for k in 0..n {
-        store_words(all[k], words, k * 52);
-    }
-}
-
-fn fill_floats(all: [StyledLayer; 32], n: usize, floats: &mut [f64])
-    requires n_bound { n ≤ 32 }
-    requires floats_len { length floats.old ≡ 192 }
-    ensures { floats.new ≡ padded zero_float 192 (flat (map row_floats (take n all))) }
-{
     floats.fill(0.0);
-    for k in 0..n {
-        store_floats(all[k], floats, k * 6);
+    layers.fill(0);
+    for k in 0..n.min(32) {
+        let x = all[k];
+        put(&mut words[..], k * 52, &row_words(x)[..]);
+        put(&mut floats[..], k * 6, &row_floats(x)[..]);
+        layers[k] = layer_number(x.style.layer);
     }
 }
 
-fn fill_layers(all: [StyledLayer; 32], n: usize, layers: &mut [i64])
-    requires n_bound { n ≤ 32 }
-    requires layers_len { length layers.old ≡ 32 }
-    ensures { layers.new ≡ padded (pos 0) 32 (map row_layer (take n all)) }
+// Stores elements one after another, from a place on.
+fn put<T: Copy>(t: &mut [T], at: usize, xs: &[T])
+    requires { at + length xs.now ≤ length t.old }
+    ensures { t.new ≡ stored t.old at xs.now }
 {
-    layers.fill(0);
-    for k in 0..n {
-        layers[k] = layer_number(all[k].style.layer);
-    }
+    t[at..at + xs.len()].copy_from_slice(xs);
 }
 
 fn layer_number(tag: Option<i64>) -> i64
@@ -98,6 +72,7 @@ fn float_number(m: Option<f64>) -> f64
     m.unwrap_or(0.0)
 }
 
+#[tactic(auto, unfolding(crate::specs::Rows::cap_number))]
 fn cap_number(c: Option<LineCap>) -> u64
     ensures { result ≡ cap_number c }
 {
@@ -111,6 +86,7 @@ fn cap_number(c: Option<LineCap>) -> u64
     }
 }
 
+#[tactic(auto, unfolding(crate::specs::Rows::position_number))]
 fn position_number(p: Option<TextPosition>) -> u64
     ensures { result ≡ position_number p }
 {
@@ -123,132 +99,94 @@ fn position_number(p: Option<TextPosition>) -> u64
     }
 }
 
-// The 52 words of a row, from a place on.
-fn store_words(x: StyledLayer, words: &mut [u64], at: usize)
-    requires { at ≤ 1664 }
-    ensures { words.new ≡ stored words.old at (row_words x) }
+// The 52 words of a row.
+fn row_words(x: StyledLayer) -> [u64; 52]
+    ensures { result ≡ row_words x }
 {
     let s = x.style;
     let text_style = s.text_style;
-    store_scalars(x, words, at);
-    let color = s.color;
-    store_color(words, at + 11, color);
-    let fill_color = s.fill_color;
-    store_color(words, at + 15, fill_color);
-    let background_color = s.background_color;
-    store_color(words, at + 19, background_color);
-    let casing_color = s.casing_color;
-    store_color(words, at + 23, casing_color);
-    let text_color = text_style.text_color;
-    store_color(words, at + 27, text_color);
-    let dashes = s.dashes;
-    store_dashes(words, at + 31, dashes);
-    let casing_dashes = s.casing_dashes;
-    store_dashes(words, at + 34, casing_dashes);
-    let icon_image = s.icon_image;
-    store_text(words, at + 37, icon_image);
-    let fill_image = s.fill_image;
-    store_text(words, at + 42, fill_image);
-    let text = text_style.text;
-    store_text(words, at + 47, text);
+    let mut row = [0u64; 52];
+    put(&mut row[..], 0, &scalars(x)[..]);
+    put(&mut row[..], 11, &color_numbers(s.color)[..]);
+    put(&mut row[..], 15, &color_numbers(s.fill_color)[..]);
+    put(&mut row[..], 19, &color_numbers(s.background_color)[..]);
+    put(&mut row[..], 23, &color_numbers(s.casing_color)[..]);
+    put(&mut row[..], 27, &color_numbers(text_style.text_color)[..]);
+    put(&mut row[..], 31, &dash_numbers(s.dashes)[..]);
+    put(&mut row[..], 34, &dash_numbers(s.casing_dashes)[..]);
+    put(&mut row[..], 37, &text_numbers(s.icon_image)[..]);
+    put(&mut row[..], 42, &text_numbers(s.fill_image)[..]);
+    put(&mut row[..], 47, &text_numbers(text_style.text)[..]);
+    row
 }
 
-fn store_scalars(x: StyledLayer, words: &mut [u64], at: usize)
-    requires { at ≤ 1664 }
-    ensures { words.new ≡ stored words.old at (scalars x) }
+#[tactic(auto, unfolding(crate::specs::Rows::scalars))]
+fn scalars(x: StyledLayer) -> [u64; 11]
+    ensures { result ≡ scalars x }
 {
     let s = x.style;
     let text_style = s.text_style;
-    let layer = s.layer;
-    let line_cap = s.line_cap;
-    let casing_line_cap = s.casing_line_cap;
-    let text_position = text_style.text_position;
-    set_long(words, at, x.selector as u64);
-    set_long(words, at + 1, has_layer(layer));
-    set_long(words, at + 2, flag(s.is_foreground_fill));
-    set_long(words, at + 3, has_number(s.opacity));
-    set_long(words, at + 4, has_number(s.fill_opacity));
-    set_long(words, at + 5, has_number(s.width));
-    set_long(words, at + 6, has_number(s.casing_width));
-    set_long(words, at + 7, has_number(text_style.font_size));
-    set_long(words, at + 8, cap_number(line_cap));
-    set_long(words, at + 9, cap_number(casing_line_cap));
-    set_long(words, at + 10, position_number(text_position));
+    [
+        x.selector as u64,
+        has_layer(s.layer),
+        flag(s.is_foreground_fill),
+        has_number(s.opacity),
+        has_number(s.fill_opacity),
+        has_number(s.width),
+        has_number(s.casing_width),
+        has_number(text_style.font_size),
+        cap_number(s.line_cap),
+        cap_number(s.casing_line_cap),
+        position_number(text_style.text_position),
+    ]
 }
 
-fn store_color(words: &mut [u64], at: usize, c: Option<Color>)
-    requires { at ≤ 2000 }
-    ensures { words.new ≡ stored words.old at (color_numbers c) }
+#[tactic(auto, unfolding(crate::specs::Rows::color_numbers))]
+fn color_numbers(c: Option<Color>) -> [u64; 4]
+    ensures { result ≡ color_numbers c }
 {
     match c {
-        None => {
-            set_long(words, at, 0);
-            set_long(words, at + 1, 0);
-            set_long(words, at + 2, 0);
-            set_long(words, at + 3, 0);
-        }
-        Some(k) => {
-            set_long(words, at, 1);
-            set_long(words, at + 1, k.r as u64);
-            set_long(words, at + 2, k.g as u64);
-            set_long(words, at + 3, k.b as u64);
-        }
+        None => [0, 0, 0, 0],
+        Some(k) => [1, k.r as u64, k.g as u64, k.b as u64],
     }
 }
 
-fn store_dashes(words: &mut [u64], at: usize, d: Option<Range>)
-    requires { at ≤ 2000 }
-    ensures { words.new ≡ stored words.old at (dash_numbers d) }
+#[tactic(auto, unfolding(crate::specs::Rows::dash_numbers))]
+fn dash_numbers(d: Option<Range>) -> [u64; 3]
+    ensures { result ≡ dash_numbers d }
 {
     match d {
-        None => {
-            set_long(words, at, 0);
-            set_long(words, at + 1, 0);
-            set_long(words, at + 2, 0);
-        }
-        Some(r) => {
-            set_long(words, at, 1);
-            set_long(words, at + 1, r.from as u64);
-            set_long(words, at + 2, r.to as u64);
-        }
+        None => [0, 0, 0],
+        Some(r) => [1, r.from as u64, r.to as u64],
     }
 }
 
-fn store_text(words: &mut [u64], at: usize, t: Option<Name>)
-    requires { at ≤ 2000 }
-    ensures { words.new ≡ stored words.old at (text_numbers t) }
+#[tactic(auto, unfolding(crate::specs::Rows::text_numbers))]
+fn text_numbers(t: Option<Name>) -> [u64; 5]
+    ensures { result ≡ text_numbers t }
 {
     match t {
-        None => store_ranges(words, at, 0, 0, 0, 0, 0),
+        None => [0, 0, 0, 0, 0],
         Some(n) => match n {
-            Name::Plain(a) => store_ranges(words, at, 1, a.from, a.to, 0, 0),
-            Name::Joined(a, b) => store_ranges(words, at, 2, a.from, a.to, b.from, b.to),
+            Name::Plain(a) => [1, a.from as u64, a.to as u64, 0, 0],
+            Name::Joined(a, b) => [2, a.from as u64, a.to as u64, b.from as u64, b.to as u64],
         },
     }
 }
 
-fn store_ranges(words: &mut [u64], at: usize, count: usize, a: usize, b: usize, c: usize, d: usize)
-    requires { at ≤ 2000 }
-    ensures { words.new ≡ stored words.old at (count ∷ a ∷ b ∷ c ∷ d ∷ []) }
-{
-    set_long(words, at, count as u64);
-    set_long(words, at + 1, a as u64);
-    set_long(words, at + 2, b as u64);
-    set_long(words, at + 3, c as u64);
-    set_long(words, at + 4, d as u64);
-}
-
-// The 6 floats of a row, from a place on.
-fn store_floats(x: StyledLayer, floats: &mut [f64], at: usize)
-    requires { at ≤ 192 }
-    ensures { floats.new ≡ stored floats.old at (row_floats x) }
+// The 6 floats of a row.
+#[tactic(auto, unfolding(crate::specs::Rows::row_floats))]
+fn row_floats(x: StyledLayer) -> [f64; 6]
+    ensures { result ≡ row_floats x }
 {
     let s = x.style;
     let text_style = s.text_style;
-    set_float(floats, at, s.z_index);
-    set_float(floats, at + 1, float_number(s.opacity));
-    set_float(floats, at + 2, float_number(s.fill_opacity));
-    set_float(floats, at + 3, float_number(s.width));
-    set_float(floats, at + 4, float_number(s.casing_width));
-    set_float(floats, at + 5, float_number(text_style.font_size));
+    [
+        s.z_index,
+        float_number(s.opacity),
+        float_number(s.fill_opacity),
+        float_number(s.width),
+        float_number(s.casing_width),
+        float_number(text_style.font_size),
+    ]
 }

@@ -9,6 +9,7 @@ use base::word_at;
 use entity::{EntityRange, single_entity};
 use parts::{default_width, row_of, tag_layer};
 use style::{Settings, Style, TextStyle, property_map_to_style};
+use table::Tables;
 use valid::{Counts, is_sound};
 use walk::names::is_layer;
 use walk::walk_entity;
@@ -31,36 +32,28 @@ pub struct EntityStyles {
 
 // The styles of an entity: 22 for the tables, 7 and 2 for the entity, then the walk, then layer by layer.
 pub fn entity_styles(
-    bundle: &[u8],
-    rules: &[u32],
-    selectors: &[u32],
-    tests: &[u32],
-    properties: &[u32],
-    numbers: &[f64],
+    tables: &Tables,
     n: Counts,
     zoom: u8,
     settings: Settings,
     entity: &[u8],
 ) -> EntityStyles
-    ensures { result ≡ styles_of bundle.now rules.now selectors.now tests.now properties.now numbers.now n zoom settings entity.now }
+    ensures { result ≡ styles_of tables.now.bundle.now tables.now.rules.now tables.now.selectors.now tables.now.tests.now tables.now.properties.now tables.now.numbers.now n zoom settings entity.now }
 {
     if !is_sound(
-        rules,
-        selectors,
-        tests,
-        properties,
-        numbers,
+        tables.rules,
+        tables.selectors,
+        tables.tests,
+        tables.properties,
+        tables.numbers,
         n,
-        bundle.len(),
+        tables.bundle.len(),
     ) {
         return no_styles(Refusal::plain(TABLE_BROKEN));
     }
     match single_entity(entity) {
         Err(r) => no_styles(r),
-        Ok(e) => walked_styles(
-            bundle, rules, selectors, tests, properties, numbers, n.rules, zoom, settings, entity,
-            e,
-        ),
+        Ok(e) => walked_styles(tables, n.rules, zoom, settings, entity, e),
     }
 }
 
@@ -75,46 +68,25 @@ fn no_styles(r: Refusal) -> EntityStyles
 
 // The styles of an entity that is read, beside tables that are sound.
 fn walked_styles(
-    bundle: &[u8],
-    rules: &[u32],
-    selectors: &[u32],
-    tests: &[u32],
-    properties: &[u32],
-    numbers: &[f64],
+    tables: &Tables,
     total: usize,
     zoom: u8,
     settings: Settings,
     entity: &[u8],
     e: EntityRange,
 ) -> EntityStyles
-    ensures { result ≡ walked_styles bundle.now rules.now selectors.now tests.now properties.now numbers.now total zoom settings entity.now e }
+    ensures { result ≡ walked_styles tables.now.bundle.now tables.now.rules.now tables.now.selectors.now tables.now.tests.now tables.now.properties.now tables.now.numbers.now total zoom settings entity.now e }
 {
     let mut maps = [0u32; 4323];
-    match walk_entity(
-        bundle, rules, selectors, tests, properties, numbers, total, zoom, entity, e, false, 0,
-        &mut maps,
-    ) {
+    match walk_entity(tables, total, zoom, entity, e, false, 0, &mut maps) {
         Err(r) => no_styles(r),
-        Ok(n) => filled_layers(
-            bundle,
-            selectors,
-            properties,
-            numbers,
-            &maps,
-            n,
-            e.kind,
-            tag_layer(entity, e),
-            settings,
-        ),
+        Ok(n) => filled_layers(tables, &maps, n, e.kind, tag_layer(entity, e), settings),
     }
 }
 
 // The styles of the first n layers of a table of maps, `*` left out.
 fn filled_layers(
-    bundle: &[u8],
-    selectors: &[u32],
-    properties: &[u32],
-    numbers: &[f64],
+    tables: &Tables,
     maps: &[u32; 4323],
     n: usize,
     kind: u8,
@@ -122,28 +94,19 @@ fn filled_layers(
     settings: Settings,
 ) -> EntityStyles
     requires { n ≤ 32 }
-    ensures { result ≡ filled_layers bundle.now selectors.now properties.now numbers.now maps.now n kind layer settings }
+    ensures { result ≡ filled_layers tables.now.bundle.now tables.now.selectors.now tables.now.properties.now tables.now.numbers.now maps.now n kind layer settings }
 {
-    let base = default_width(bundle, selectors, properties, numbers, maps, n);
+    let base = default_width(tables, maps, n);
     let mut layers = [blank_layer(); 32];
     let mut count: usize = 0;
     for i in 0..n {
         let s = word_at(&maps[..], i * 131);
-        if is_layer(bundle, selectors, s, b"*") {
+        if is_layer(tables.bundle, tables.selectors, s, b"*") {
             continue;
         }
         layers[count] = StyledLayer {
             selector: s,
-            style: property_map_to_style(
-                bundle,
-                properties,
-                numbers,
-                row_of(maps, i),
-                kind,
-                layer,
-                base,
-                settings,
-            ),
+            style: property_map_to_style(tables, row_of(maps, i), kind, layer, base, settings),
         };
         count += 1;
     }
@@ -153,6 +116,7 @@ fn filled_layers(
     }
 }
 
+#[tactic(auto, unfolding(crate::specs::Styles::blank_layer))]
 fn blank_layer() -> StyledLayer
     ensures { result ≡ blank_layer }
 {

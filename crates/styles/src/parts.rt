@@ -9,6 +9,7 @@ ghost use Rattle.styles.specs.Styles.{default_width};
 use entity::EntityRange;
 use style::get::get_num;
 use style::width_or_zero;
+use table::Tables;
 
 // The tag `layer` of an entity.
 pub fn tag_layer(entity: &[u8], e: EntityRange) -> Option<i64>
@@ -36,19 +37,12 @@ pub fn row_of(maps: &[u32; 4323], i: usize) -> &[u32]
 }
 
 // The width of the default layer among the first n of a table of maps; 0 where it has none, or there is none.
-pub fn default_width(
-    bundle: &[u8],
-    selectors: &[u32],
-    properties: &[u32],
-    numbers: &[f64],
-    maps: &[u32; 4323],
-    n: usize,
-) -> f64
-    ensures { result ≡ default_width bundle.now selectors.now properties.now numbers.now maps.now n }
+pub fn default_width(tables: &Tables, maps: &[u32; 4323], n: usize) -> f64
+    ensures { result ≡ default_width tables.now.bundle.now tables.now.selectors.now tables.now.properties.now tables.now.numbers.now maps.now n }
 {
-    let i = walk::layer_place(bundle, selectors, &maps[..], n, b"default");
+    let i = walk::layer_place(tables.bundle, tables.selectors, &maps[..], n, b"default");
     if i < n {
-        return width_or_zero(get_num(bundle, properties, numbers, row_of(maps, i), b"width"));
+        return width_or_zero(get_num(tables, row_of(maps, i), b"width"));
     }
     0.0
 }

@@ -99,7 +99,7 @@ pub fn word_of(t: &[u32], i: usize, j: usize) -> usize
     // for a constant j, and an i of 32 bits, only the test of word_at is left
     if j < 8 {
         if i < 2305843009213693952 {
-            return wide(base::word_at(t, i * 8 + j));
+            return base::word_at(t, i * 8 + j) as usize;
         }
         return 0;
     }
@@ -116,11 +116,5 @@ fn far_word(t: &[u32], i: usize, j: usize) -> usize
     if t.len() <= j {
         return 0;
     }
-    wide(base::word_at(t, i * 8 + j))
-}
-
-fn wide(w: u32) -> usize
-    ensures { result ≡ w }
-{
-    w as usize
+    base::word_at(t, i * 8 + j) as usize
 }

@@ -11,6 +11,7 @@ use base::refusal::{Refusal, TABLE_BROKEN, TAG_NUMBER};
 use base::{word_at, zero_words};
 use entity::{EntityRange, single_entity};
 use matching::{Fit, matches};
+use table::Tables;
 use valid::{Counts, is_sound};
 
 mod layers;
@@ -19,28 +20,23 @@ mod rows;
 
 // The property maps of an entity: how many layers there are, and the table of them, or why not, and a table of zeros.
 pub fn property_maps(
-    bundle: &[u8],
-    rules: &[u32],
-    selectors: &[u32],
-    tests: &[u32],
-    properties: &[u32],
-    numbers: &[f64],
+    tables: &Tables,
     n: Counts,
     zoom: u8,
     entity: &[u8],
     maps: &mut [u32; 4323],
 ) -> Result<usize, Refusal>
-    ensures maps_after { (result, maps.new) ≡ maps_of bundle.now rules.now selectors.now tests.now properties.now numbers.now n zoom entity.now }
+    ensures maps_after { (result, maps.new) ≡ maps_of tables.now.bundle.now tables.now.rules.now tables.now.selectors.now tables.now.tests.now tables.now.properties.now tables.now.numbers.now n zoom entity.now }
     ensures few { few result }
 {
     if !is_sound(
-        rules,
-        selectors,
-        tests,
-        properties,
-        numbers,
+        tables.rules,
+        tables.selectors,
+        tables.tests,
+        tables.properties,
+        tables.numbers,
         n,
-        bundle.len(),
+        tables.bundle.len(),
     ) {
         zero_words(&mut maps[..]);
         return Err(Refusal::plain(TABLE_BROKEN));
@@ -50,21 +46,13 @@ pub fn property_maps(
             zero_words(&mut maps[..]);
             Err(r)
         }
-        Ok(e) => walk_entity(
-            bundle, rules, selectors, tests, properties, numbers, n.rules, zoom, entity, e, false,
-            0, maps,
-        ),
+        Ok(e) => walk_entity(tables, n.rules, zoom, entity, e, false, 0, maps),
     }
 }
 
 // The walk alone, for callers that have judged the tables and the entity, which has this place in its stream.
 pub fn walk_entity(
-    bundle: &[u8],
-    rules: &[u32],
-    selectors: &[u32],
-    tests: &[u32],
-    properties: &[u32],
-    numbers: &[f64],
+    tables: &Tables,
     total: usize,
     zoom: u8,
     entity: &[u8],
@@ -73,27 +61,15 @@ pub fn walk_entity(
     place: usize,
     maps: &mut [u32; 4323],
 ) -> Result<usize, Refusal>
-    ensures maps_after { (result, maps.new) ≡ walk_of bundle.now rules.now selectors.now tests.now properties.now numbers.now total zoom entity.now e multipolygons place }
+    ensures maps_after { (result, maps.new) ≡ walk_of tables.now.bundle.now tables.now.rules.now tables.now.selectors.now tables.now.tests.now tables.now.properties.now tables.now.numbers.now total zoom entity.now e multipolygons place }
     ensures few { few result }
 {
     zero_words(&mut maps[..]);
     if 16384 < total {
         return Err(Refusal::plain(TABLE_BROKEN));
     }
-    let q = walk_rules(
-        bundle,
-        rules,
-        selectors,
-        tests,
-        properties,
-        numbers,
-        total,
-        zoom,
-        entity,
-        e,
-        &mut maps[..],
-    );
-    finish_maps(q, multipolygons, place, &mut maps[..])
+    let q = walk_rules(tables, total, zoom, entity, e, maps);
+    finish_maps(q, multipolygons, place, maps)
 }
 
 // The place of the layer of this name among the first n of a table of maps, or n.
@@ -111,15 +87,15 @@ fn finish_maps(
     q: Result<usize, usize>,
     multipolygons: bool,
     place: usize,
-    t: &mut [u32],
+    t: &mut [u32; 4323],
 ) -> Result<usize, Refusal>
-    requires { (length t.old ≡ 4323) × IsBounded q }
+    requires { IsBounded q }
     ensures t_after { (result, t.new) ≡ finish multipolygons place (told q t.old) }
     ensures few { few result }
 {
     match q {
         Err(k) => {
-            zero_words(t);
+            zero_words(&mut t[..]);
             Err(Refusal::of_entity(k, multipolygons, place))
         }
         Ok(m) => Ok(m),
@@ -128,89 +104,69 @@ fn finish_maps(
 
 // The first `total` rules, in order.
 fn walk_rules(
-    bundle: &[u8],
-    rules: &[u32],
-    selectors: &[u32],
-    tests: &[u32],
-    properties: &[u32],
-    numbers: &[f64],
+    tables: &Tables,
     total: usize,
     zoom: u8,
     entity: &[u8],
     e: EntityRange,
-    t: &mut [u32],
+    t: &mut [u32; 4323],
 ) -> Result<usize, usize>
-    requires { (total ≤ 16384) × (length t.old ≡ 4323) }
-    ensures t_after { told result t.new ≡ rules_of (name_at bundle.now properties.now) (layer_in bundle.now selectors.now) (verdict_in bundle.now selectors.now tests.now numbers.now zoom entity.now e) rules.now t.old 0 0 total }
+    requires { total ≤ 16384 }
+    ensures t_after { told result t.new ≡ rules_of (name_at tables.now.bundle.now tables.now.properties.now) (layer_in tables.now.bundle.now tables.now.selectors.now) (verdict_in tables.now.bundle.now tables.now.selectors.now tables.now.tests.now tables.now.numbers.now zoom entity.now e) tables.now.rules.now t.old 0 0 total }
     ensures IsBounded { IsBounded result }
 {
     let mut m = 0;
     for r in 0..total {
-        m = walk_rule(
-            bundle, rules, selectors, tests, properties, numbers, zoom, entity, e, t, m, r,
-        )?;
+        m = walk_rule(tables, zoom, entity, e, t, m, r)?;
     }
     Ok(m)
 }
 
 // One rule: its selectors in order.
 fn walk_rule(
-    bundle: &[u8],
-    rules: &[u32],
-    selectors: &[u32],
-    tests: &[u32],
-    properties: &[u32],
-    numbers: &[f64],
+    tables: &Tables,
     zoom: u8,
     entity: &[u8],
     e: EntityRange,
-    t: &mut [u32],
+    t: &mut [u32; 4323],
     n: usize,
     r: usize,
 ) -> Result<usize, usize>
-    requires { (n ≤ 32) × (r < 16384) × (length t.old ≡ 4323) }
-    ensures t_after { told result t.new ≡ rule_of (name_at bundle.now properties.now) (layer_in bundle.now selectors.now) (verdict_in bundle.now selectors.now tests.now numbers.now zoom entity.now e) rules.now t.old n r }
+    requires { (n ≤ 32) × (r < 16384) }
+    ensures t_after { told result t.new ≡ rule_of (name_at tables.now.bundle.now tables.now.properties.now) (layer_in tables.now.bundle.now tables.now.selectors.now) (verdict_in tables.now.bundle.now tables.now.selectors.now tables.now.tests.now tables.now.numbers.now zoom entity.now e) tables.now.rules.now t.old n r }
     ensures IsBounded { IsBounded result }
 {
     let at = r * 8;
-    let start = word_at(rules, at + 1);
-    let end = word_at(rules, at + 2);
-    let from = word_at(rules, at + 3);
-    let to = word_at(rules, at + 4);
+    let start = word_at(tables.rules, at + 1);
+    let end = word_at(tables.rules, at + 2);
+    let from = word_at(tables.rules, at + 3);
+    let to = word_at(tables.rules, at + 4);
     let mut m = n;
     for s in start..end {
-        m = visit(
-            bundle, selectors, tests, properties, numbers, zoom, entity, e, t, m, s, from, to,
-        )?;
+        m = visit(tables, zoom, entity, e, t, m, s, from, to)?;
     }
     Ok(m)
 }
 
 // One selector, with the properties from..to of its rule.
 fn visit(
-    bundle: &[u8],
-    selectors: &[u32],
-    tests: &[u32],
-    properties: &[u32],
-    numbers: &[f64],
+    tables: &Tables,
     zoom: u8,
     entity: &[u8],
     e: EntityRange,
-    t: &mut [u32],
+    t: &mut [u32; 4323],
     n: usize,
     s: u32,
     from: u32,
     to: u32,
 ) -> Result<usize, usize>
-    requires { (n ≤ 32) × (length t.old ≡ 4323) }
-    ensures t_after { told result t.new ≡ hit_of (name_at bundle.now properties.now) (layer_in bundle.now selectors.now) (verdict_in bundle.now selectors.now tests.now numbers.now zoom entity.now e) t.old n s (places from (to - from)) }
+    requires { n ≤ 32 }
+    ensures t_after { told result t.new ≡ hit_of (name_at tables.now.bundle.now tables.now.properties.now) (layer_in tables.now.bundle.now tables.now.selectors.now) (verdict_in tables.now.bundle.now tables.now.selectors.now tables.now.tests.now tables.now.numbers.now zoom entity.now e) t.old n s (places from (to - from)) }
     ensures IsBounded { IsBounded result }
 {
-    match matches(
-        bundle, selectors, tests, numbers, zoom, entity, e, s as usize,
-    ) {
+    match matches(tables, zoom, entity, e, s as usize) {
         Fit::Out => Err(TAG_NUMBER),
         Fit::Misses => Ok(n),
-        Fit::Fits => layers::step(bundle, selectors, properties, t, n, s, from, to),
+        Fit::Fits => layers::step(tables, t, n, s, from, to),
     }
 }

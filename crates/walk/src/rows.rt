@@ -5,47 +5,35 @@ ghost use Rattle.decode.specs.Decode.{name_at, places};
 ghost use Rattle.walk.specs.Rows.{assigns};
 
 use crate::names::{find_name, name_of};
+use table::Tables;
 
 // Assigns property p to a row, of which the first `count` entries are in use, and returns the new count.
-fn assign_property(
-    bundle: &[u8],
-    properties: &[u32],
-    row: &mut [u32],
-    count: usize,
-    p: u32,
-) -> usize
+fn assign_property(tables: &Tables, row: &mut [u32], count: usize, p: u32) -> usize
     requires { count < length row.old }
-    ensures used { result ≡ length (assign (name_at bundle.now properties.now) (take count row.old) p) }
-    ensures assigned { row.new ≡ assign (name_at bundle.now properties.now) (take count row.old) p ++ drop result row.old }
+    ensures used { result ≡ length (assign (name_at tables.now.bundle.now tables.now.properties.now) (take count row.old) p) }
+    ensures assigned { row.new ≡ assign (name_at tables.now.bundle.now tables.now.properties.now) (take count row.old) p ++ drop result row.old }
 {
     let at = find_name(
-        bundle,
-        properties,
+        tables.bundle,
+        tables.properties,
         &row[..count],
-        name_of(bundle, properties, p),
+        name_of(tables.bundle, tables.properties, p),
     );
     row[at] = p;
     if at < count { count } else { count + 1 }
 }
 
 // Assigns the properties from..to to a row, in order, and returns the new count: the row's length where they leave no entry free.
-pub fn assign_range(
-    bundle: &[u8],
-    properties: &[u32],
-    row: &mut [u32],
-    count: usize,
-    from: u32,
-    to: u32,
-) -> usize
-    ensures used { result ≡ min (length row.old) (length (assigns (name_at bundle.now properties.now) (take count row.old) (places from (to - from)))) }
-    ensures kept { result < length row.old → row.new ≡ assigns (name_at bundle.now properties.now) (take count row.old) (places from (to - from)) ++ drop result row.old }
+pub fn assign_range(tables: &Tables, row: &mut [u32], count: usize, from: u32, to: u32) -> usize
+    ensures used { result ≡ min (length row.old) (length (assigns (name_at tables.now.bundle.now tables.now.properties.now) (take count row.old) (places from (to - from)))) }
+    ensures kept { result < length row.old → row.new ≡ assigns (name_at tables.now.bundle.now tables.now.properties.now) (take count row.old) (places from (to - from)) ++ drop result row.old }
 {
     if row.len() <= count {
         return row.len();
     }
     let mut n = count;
     for p in from..to {
-        n = assign_property(bundle, properties, row, n, p);
+        n = assign_property(tables, row, n, p);
         if n == row.len() {
             return n;
         }

@@ -5,12 +5,12 @@ use Rattle.canvas.proofs.canvas_fill_color.Goals as goal
 
 pub returns-then-not-is_sound : goal.returns-then-not-is_sound
 returns-then-not-is_sound c = let a = c.args in
-    canvas_broken a.bundle.now a.rules.now a.selectors.now a.tests.now a.properties.now a.numbers.now a.n
+    canvas_broken a.tables.now.bundle.now a.tables.now.rules.now a.tables.now.selectors.now a.tables.now.tests.now a.tables.now.properties.now a.tables.now.numbers.now a.n
     a.style_type _ c.is_sound.ensures (ap not c.if-not-is_sound.true) _ c.plain.ensures
 
 pub returns-in-Josm : goal.returns-in-Josm
 returns-in-Josm c = let a = c.args in
-    canvas_colored a.bundle.now a.rules.now a.selectors.now a.tests.now a.properties.now a.numbers.now a.n
+    canvas_colored a.tables.now.bundle.now a.tables.now.rules.now a.tables.now.selectors.now a.tables.now.tests.now a.tables.now.properties.now a.tables.now.numbers.now a.n
     a.style_type _
     c.is_sound.ensures
     (ap not c.if-not-is_sound.false) _ _ c.in-Josm.is
@@ -18,7 +18,7 @@ returns-in-Josm c = let a = c.args in
 
 pub returns-in-MapsMe : goal.returns-in-MapsMe
 returns-in-MapsMe c = let a = c.args in
-    canvas_colored a.bundle.now a.rules.now a.selectors.now a.tests.now a.properties.now a.numbers.now a.n
+    canvas_colored a.tables.now.bundle.now a.tables.now.rules.now a.tables.now.selectors.now a.tables.now.tests.now a.tables.now.properties.now a.tables.now.numbers.now a.n
     a.style_type _
     c.is_sound.ensures
     (ap not c.if-not-is_sound.false) _ _ c.in-MapsMe.is

@@ -6,13 +6,13 @@ use Rattle.canvas.proofs.rules_color.Goals as goal
 pub loop-r-init : goal.loop-r-init
 loop-r-init c = let a = c.args in
     all_left
-    (rules_color a.bundle.now a.rules.now a.selectors.now a.properties.now a.numbers.now a.name.now)
+    (rules_color a.tables.now.bundle.now a.tables.now.rules.now a.tables.now.selectors.now a.tables.now.properties.now a.tables.now.numbers.now a.name.now)
     a.total
 
 pub loop-r-preserved : goal.loop-r-preserved
 unfolding or_color
 loop-r-preserved c = let a = c.args in
-    rules_step a.bundle.now a.rules.now a.selectors.now a.properties.now a.numbers.now a.name.now a.total
+    rules_step a.tables.now.bundle.now a.tables.now.rules.now a.tables.now.selectors.now a.tables.now.properties.now a.tables.now.numbers.now a.name.now a.total
     c.loop-r.r c.loop-r-test.true _ _
     c.rule_color.ensures c.in_default.is
     ∙ c.loop-r.invariant
@@ -20,13 +20,13 @@ loop-r-preserved c = let a = c.args in
 pub returns-in-Some : goal.returns-in-Some
 unfolding or_color
 returns-in-Some c = let a = c.args in
-    rules_step a.bundle.now a.rules.now a.selectors.now a.properties.now a.numbers.now a.name.now a.total
+    rules_step a.tables.now.bundle.now a.tables.now.rules.now a.tables.now.selectors.now a.tables.now.properties.now a.tables.now.numbers.now a.name.now a.total
     c.loop-r.r c.loop-r-test.true _ _
     c.rule_color.ensures c.in-Some.is
     ∙ c.loop-r.invariant
 
 pub returns : goal.returns
 returns c = let a = c.args in
-    rules_end a.bundle.now a.rules.now a.selectors.now a.properties.now a.numbers.now a.name.now a.total
+    rules_end a.tables.now.bundle.now a.tables.now.rules.now a.tables.now.selectors.now a.tables.now.properties.now a.tables.now.numbers.now a.name.now a.total
     c.loop-r.r c.loop-r-test.false
     ∙ c.loop-r.invariant

@@ -15,10 +15,10 @@ returns-then-fits_type c = right_type
     c.args.entity.now
     c.args.e)
     (selector_in
-    c.args.bundle.now
-    c.args.selectors.now
-    c.args.tests.now
-    c.args.numbers.now
+    c.args.tables.now.bundle.now
+    c.args.tables.now.selectors.now
+    c.args.tables.now.tests.now
+    c.args.tables.now.numbers.now
     c.args.i)
     _
     c.fits_zoom.ensures
@@ -39,9 +39,9 @@ returns-then-fits_type c = right_type
     c.args.e)
     (map
     (test_at
-    c.args.bundle.now
-    c.args.tests.now
-    c.args.numbers.now) (places_in r)))) c.range_of.ensures)
+    c.args.tables.now.bundle.now
+    c.args.tables.now.tests.now
+    c.args.tables.now.numbers.now) (places_in r)))) c.range_of.ensures)
 
 pub returns-then-fits_zoom : goal.returns-then-fits_zoom
 unfolding value_of
@@ -51,10 +51,10 @@ returns-then-fits_zoom c = other_type
     c.args.entity.now
     c.args.e)
     (selector_in
-    c.args.bundle.now
-    c.args.selectors.now
-    c.args.tests.now
-    c.args.numbers.now
+    c.args.tables.now.bundle.now
+    c.args.tables.now.selectors.now
+    c.args.tables.now.tests.now
+    c.args.tables.now.numbers.now
     c.args.i) _
     c.fits_zoom.ensures c.if-fits_zoom.true _
     (c.fits_type.ensures
@@ -71,9 +71,9 @@ returns c = beyond
     c.args.entity.now
     c.args.e)
     (selector_in
-    c.args.bundle.now
-    c.args.selectors.now
-    c.args.tests.now
-    c.args.numbers.now
+    c.args.tables.now.bundle.now
+    c.args.tables.now.selectors.now
+    c.args.tables.now.tests.now
+    c.args.tables.now.numbers.now
     c.args.i) _ c.fits_zoom.ensures
     c.if-fits_zoom.false

@@ -5,4 +5,4 @@ use Rattle.matching.proofs.number_of.Goals as goal
 
 pub returns : goal.returns
 returns c = c.float_at.ensures
-    ∙ ap (λ k. get_or c.args.numbers.now k zero_float) c.word_of.ensures
+    ∙ ap (λ k. get_or c.args.tables.now.numbers.now k zero_float) c.word_of.ensures

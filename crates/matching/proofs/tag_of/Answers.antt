@@ -4,8 +4,8 @@ use Rattle.matching.proofs.tag_of.Goals as goal
 
 pub returns-then-word_of-eq1 : goal.returns-then-word_of-eq1
 returns-then-word_of-eq1 c = tag_joined
-    c.args.bundle.now
-    c.args.tests.now
+    c.args.tables.now.bundle.now
+    c.args.tables.now.tests.now
     c.args.entity.now
     (pairs_at
     c.args.e.count
@@ -19,8 +19,8 @@ returns-then-word_of-eq1 c = tag_joined
 
 pub returns : goal.returns
 returns c = tag_plain
-    c.args.bundle.now
-    c.args.tests.now
+    c.args.tables.now.bundle.now
+    c.args.tables.now.tests.now
     c.args.entity.now
     (pairs_at
     c.args.e.count

@@ -3,9 +3,9 @@ use Rattle.matching.proofs.test_fits.Goals as goal
 
 pub returns-in-None : goal.returns-in-None
 returns-in-None c = test_absent
-    c.args.bundle.now
-    c.args.tests.now
-    c.args.numbers.now
+    c.args.tables.now.bundle.now
+    c.args.tables.now.tests.now
+    c.args.tables.now.numbers.now
     c.args.i
     c.args.entity.now
     c.args.e _
@@ -14,9 +14,9 @@ returns-in-None c = test_absent
 
 pub returns-in-Some : goal.returns-in-Some
 returns-in-Some c = test_value_lem
-    c.args.bundle.now
-    c.args.tests.now
-    c.args.numbers.now
+    c.args.tables.now.bundle.now
+    c.args.tables.now.tests.now
+    c.args.tables.now.numbers.now
     c.args.i
     c.args.entity.now
     c.args.e _

@@ -13,9 +13,9 @@ returns-in-Out c = tests_step
     c.args.entity.now
     c.args.e)
     (test_at
-    c.args.bundle.now
-    c.args.tests.now
-    c.args.numbers.now)
+    c.args.tables.now.bundle.now
+    c.args.tables.now.tests.now
+    c.args.tables.now.numbers.now)
     c.args.range.to
     c.loop-k.k c.loop-k-test.true _
     c.test_fits.ensures _ c.in-Out.is
@@ -27,9 +27,9 @@ returns-in-Misses c = tests_step
     c.args.entity.now
     c.args.e)
     (test_at
-    c.args.bundle.now
-    c.args.tests.now
-    c.args.numbers.now)
+    c.args.tables.now.bundle.now
+    c.args.tables.now.tests.now
+    c.args.tables.now.numbers.now)
     c.args.range.to
     c.loop-k.k c.loop-k-test.true _
     c.test_fits.ensures _ c.in-Misses.is
@@ -41,9 +41,9 @@ loop-k-preserved c = tests_step
     c.args.entity.now
     c.args.e)
     (test_at
-    c.args.bundle.now
-    c.args.tests.now
-    c.args.numbers.now)
+    c.args.tables.now.bundle.now
+    c.args.tables.now.tests.now
+    c.args.tables.now.numbers.now)
     c.args.range.to
     c.loop-k.k c.loop-k-test.true _
     c.test_fits.ensures _ c.in-Fits.is
@@ -55,9 +55,9 @@ returns c = tests_end
     c.args.entity.now
     c.args.e)
     (test_at
-    c.args.bundle.now
-    c.args.tests.now
-    c.args.numbers.now)
+    c.args.tables.now.bundle.now
+    c.args.tables.now.tests.now
+    c.args.tables.now.numbers.now)
     c.args.range.to c.loop-k.k
     c.loop-k-test.false
     ∙ c.loop-k.invariant

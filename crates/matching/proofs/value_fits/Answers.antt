@@ -3,27 +3,27 @@ use Rattle.matching.proofs.value_fits.Goals as goal
 
 pub returns-in-1 : goal.returns-in-1
 returns-in-1 c = value_exists
-    c.args.bundle.now
-    c.args.tests.now
-    c.args.numbers.now
+    c.args.tables.now.bundle.now
+    c.args.tables.now.tests.now
+    c.args.tables.now.numbers.now
     c.args.i
     c.args.v.now _ c.word_of-kind.ensures
     c.in-1.is
 
 pub returns-in-2 : goal.returns-in-2
 returns-in-2 c = value_not_exists
-    c.args.bundle.now
-    c.args.tests.now
-    c.args.numbers.now
+    c.args.tables.now.bundle.now
+    c.args.tables.now.tests.now
+    c.args.tables.now.numbers.now
     c.args.i
     c.args.v.now _ c.word_of-kind.ensures
     c.in-2.is
 
 pub returns-in-3 : goal.returns-in-3
 returns-in-3 c = value_true
-    c.args.bundle.now
-    c.args.tests.now
-    c.args.numbers.now
+    c.args.tables.now.bundle.now
+    c.args.tables.now.tests.now
+    c.args.tables.now.numbers.now
     c.args.i
     c.args.v.now _
     c.word_of-kind.ensures _ _ c.in-3.is
@@ -31,9 +31,9 @@ returns-in-3 c = value_true
 
 pub returns-in-4 : goal.returns-in-4
 returns-in-4 c = value_false
-    c.args.bundle.now
-    c.args.tests.now
-    c.args.numbers.now
+    c.args.tables.now.bundle.now
+    c.args.tables.now.tests.now
+    c.args.tables.now.numbers.now
     c.args.i
     c.args.v.now _
     c.word_of-kind.ensures _ _ c.in-4.is
@@ -41,9 +41,9 @@ returns-in-4 c = value_false
 
 pub returns-in-5 : goal.returns-in-5
 returns-in-5 c = value_equal
-    c.args.bundle.now
-    c.args.tests.now
-    c.args.numbers.now
+    c.args.tables.now.bundle.now
+    c.args.tables.now.tests.now
+    c.args.tables.now.numbers.now
     c.args.i
     c.args.v.now _
     c.word_of-kind.ensures _ _ _ _
@@ -52,9 +52,9 @@ returns-in-5 c = value_equal
 
 pub returns-in-6 : goal.returns-in-6
 returns-in-6 c = value_not_equal
-    c.args.bundle.now
-    c.args.tests.now
-    c.args.numbers.now
+    c.args.tables.now.bundle.now
+    c.args.tables.now.tests.now
+    c.args.tables.now.numbers.now
     c.args.i
     c.args.v.now _
     c.word_of-kind.ensures _ _ _ _
@@ -63,9 +63,9 @@ returns-in-6 c = value_not_equal
 
 pub returns-in-7 : goal.returns-in-7
 returns-in-7 c = value_digits
-    c.args.bundle.now
-    c.args.tests.now
-    c.args.numbers.now
+    c.args.tables.now.bundle.now
+    c.args.tables.now.tests.now
+    c.args.tables.now.numbers.now
     c.args.i
     c.args.v.now _
     c.word_of-kind.ensures _ _ _ c.number_of.ensures
@@ -73,9 +73,9 @@ returns-in-7 c = value_digits
 
 pub returns-in-8 : goal.returns-in-8
 returns-in-8 c = value_not_digits
-    c.args.bundle.now
-    c.args.tests.now
-    c.args.numbers.now
+    c.args.tables.now.bundle.now
+    c.args.tables.now.tests.now
+    c.args.tables.now.numbers.now
     c.args.i
     c.args.v.now _
     c.word_of-kind.ensures _ _ _ c.number_of-in-8.ensures
@@ -83,9 +83,9 @@ returns-in-8 c = value_not_digits
 
 pub returns-in_default : goal.returns-in_default
 returns-in_default c = value_number
-    c.args.bundle.now
-    c.args.tests.now
-    c.args.numbers.now
+    c.args.tables.now.bundle.now
+    c.args.tables.now.tests.now
+    c.args.tables.now.numbers.now
     c.args.i
     c.args.v.now _
     c.word_of-kind.ensures _ _ c.in_default.in_default-own.rest

@@ -1,8 +1,10 @@
-use Rattle.style.specs.Style.{style_at}
+use Rattle.std.proofs.Common.{◌∙◌}
+use Rattle.style.specs.Style.{style_at, base_width}
+use Rattle.style.proofs.GetLaws.{or_else}
 use Rattle.style.proofs.property_map_to_style.Goals as goal
 
 pub returns : goal.returns
-unfolding style_at
+unfolding style_at base_width
 returns c = simp (
   ← c.text_style.ensures,
   ← c.get_string-2.ensures,
@@ -18,7 +20,7 @@ returns c = simp (
   ← c.get_color.ensures,
   ← c.z_index.ensures,
   ← c.casing_width-casing.ensures,
-  ← c.base_width-base.ensures,
+  ← (c.unwrap_or-base.ensures ∙ or_else c.get_num-width.result c.args.default_width),
   ← c.get_num-width.ensures,
   ← c.get_num-fill_opacity.ensures,
   ← c.get_num-opacity.ensures,

@@ -1,11 +1,12 @@
-use Rattle.base.specs.Option.{on_option}
+use Rattle.std.proofs.Common.{◌∙◌}
 use Rattle.style.specs.Style.{z_index_of}
+use Rattle.style.proofs.GetLaws.{or_else}
 use Rattle.style.proofs.z_index.Goals as goal
 
-pub returns-in-None : goal.returns-in-None
-unfolding z_index_of on_option
-returns-in-None c = simp (← c.default_z_index.ensures, c.in-None.is, ← c.get_num.ensures)
-
-pub returns-in-Some : goal.returns-in-Some
-unfolding z_index_of on_option
-returns-in-Some c = simp (c.in-Some.is, ← c.get_num.ensures)
+pub returns : goal.returns
+unfolding z_index_of
+returns c = simp (
+  ← (c.unwrap_or.ensures ∙ or_else c.get_num.result c.default_z_index.result),
+  ← c.default_z_index.ensures,
+  ← c.get_num.ensures,
+)

@@ -5,13 +5,13 @@ use Rattle.styles.proofs.entity_styles.Goals as goal
 
 pub returns-then-not-is_sound : goal.returns-then-not-is_sound
 returns-then-not-is_sound c = let a = c.args in
-    styles_broken a.bundle.now a.rules.now a.selectors.now a.tests.now a.properties.now a.numbers.now a.n
+    styles_broken a.tables.now.bundle.now a.tables.now.rules.now a.tables.now.selectors.now a.tables.now.tests.now a.tables.now.properties.now a.tables.now.numbers.now a.n
     a.zoom a.settings a.entity.now _ c.is_sound.ensures _
     (ap not c.if-not-is_sound.true) _ c.plain.ensures c.no_styles.ensures
 
 pub returns-in-Err : goal.returns-in-Err
 returns-in-Err c = let a = c.args in
-    styles_bad a.bundle.now a.rules.now a.selectors.now a.tests.now a.properties.now a.numbers.now a.n
+    styles_bad a.tables.now.bundle.now a.tables.now.rules.now a.tables.now.selectors.now a.tables.now.tests.now a.tables.now.properties.now a.tables.now.numbers.now a.n
     a.zoom a.settings a.entity.now _
     c.is_sound.ensures _
     (ap not c.if-not-is_sound.false) _
@@ -20,7 +20,7 @@ returns-in-Err c = let a = c.args in
 
 pub returns-in-Ok : goal.returns-in-Ok
 returns-in-Ok c = let a = c.args in
-    styles_walked a.bundle.now a.rules.now a.selectors.now a.tests.now a.properties.now a.numbers.now a.n
+    styles_walked a.tables.now.bundle.now a.tables.now.rules.now a.tables.now.selectors.now a.tables.now.tests.now a.tables.now.properties.now a.tables.now.numbers.now a.n
     a.zoom a.settings a.entity.now _
     c.is_sound.ensures _
     (ap not c.if-not-is_sound.false) _

@@ -9,7 +9,7 @@ pub loop-i-preserved-then-is_layer : goal.loop-i-preserved-then-is_layer
 loop-i-preserved-then-is_layer c = let a = c.args in
     let loop = c.loop-i in (
       omega arith,
-      star_next a.bundle.now a.selectors.now a.properties.now a.numbers.now a.maps.now a.n a.kind a.layer
+      star_next a.tables.now.bundle.now a.tables.now.selectors.now a.tables.now.properties.now a.tables.now.numbers.now a.maps.now a.n a.kind a.layer
           a.settings loop.i loop.count _ loop.invariant.1 _ c.word_at-s.ensures _
           c.is_layer.ensures
           c.if-is_layer.true,
@@ -19,7 +19,7 @@ pub loop-i-preserved : goal.loop-i-preserved
 loop-i-preserved c = let a = c.args in
     let loop = c.loop-i in (
       omega arith,
-      layer_next a.bundle.now a.selectors.now a.properties.now a.numbers.now a.maps.now a.n a.kind a.layer
+      layer_next a.tables.now.bundle.now a.tables.now.selectors.now a.tables.now.properties.now a.tables.now.numbers.now a.maps.now a.n a.kind a.layer
           a.settings loop.i loop.count _ loop.invariant.1 _
           c.word_at-s.ensures _
           c.is_layer.ensures
@@ -32,6 +32,6 @@ loop-i-preserved c = let a = c.args in
 pub returns : goal.returns
 returns c = let a = c.args in
     let loop = c.loop-i in
-    filled_all a.bundle.now a.selectors.now a.properties.now a.numbers.now a.maps.now a.n
+    filled_all a.tables.now.bundle.now a.tables.now.selectors.now a.tables.now.properties.now a.tables.now.numbers.now a.maps.now a.n
     a.kind a.layer a.settings
     loop.i loop.count _ (omega arith) loop.invariant.1

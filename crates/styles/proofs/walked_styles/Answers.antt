@@ -8,7 +8,7 @@ filled_layers-requires c = subst few c.in-Ok.is c.walk_entity.ensures.few
 
 pub returns-in-Err : goal.returns-in-Err
 returns-in-Err c = let a = c.args in
-    walked_refused a.bundle.now a.rules.now a.selectors.now a.tests.now a.properties.now a.numbers.now a.total
+    walked_refused a.tables.now.bundle.now a.tables.now.rules.now a.tables.now.selectors.now a.tables.now.tests.now a.tables.now.properties.now a.tables.now.numbers.now a.total
     a.zoom a.settings a.entity.now a.e _ _
     c.walk_entity.ensures.maps_after _ _ c.in-Err.is
     c.no_styles.ensures
@@ -16,7 +16,7 @@ returns-in-Err c = let a = c.args in
 pub returns-in-Ok : goal.returns-in-Ok
 returns-in-Ok c = let a =
     c.args in
-    walked_filled a.bundle.now a.rules.now a.selectors.now a.tests.now a.properties.now a.numbers.now a.total
+    walked_filled a.tables.now.bundle.now a.tables.now.rules.now a.tables.now.selectors.now a.tables.now.tests.now a.tables.now.properties.now a.tables.now.numbers.now a.total
     a.zoom a.settings a.entity.now a.e _ _
     c.walk_entity.ensures.maps_after _ _
     c.in-Ok.is _ c.tag_layer.ensures

@@ -8,8 +8,8 @@ use Rattle.walk.proofs.visit.Goals as goal
 
 pub returns-in-Out : goal.returns-in-Out
 returns-in-Out c = let a = c.args in record {
-  t_after = hit (name_at a.bundle.now a.properties.now) (layer_in a.bundle.now a.selectors.now)
-      (verdict_in a.bundle.now a.selectors.now a.tests.now a.numbers.now a.zoom a.entity.now
+  t_after = hit (name_at a.tables.now.bundle.now a.tables.now.properties.now) (layer_in a.tables.now.bundle.now a.tables.now.selectors.now)
+      (verdict_in a.tables.now.bundle.now a.tables.now.selectors.now a.tables.now.tests.now a.tables.now.numbers.now a.zoom a.entity.now
       a.e) a.t.now a.n a.s (places a.from (a.to - a.from)) _
       c.matches.ensures _ Out c.in-Out.is refl;
   IsBounded = tt;
@@ -17,17 +17,17 @@ returns-in-Out c = let a = c.args in record {
 
 pub returns-in-Misses : goal.returns-in-Misses
 returns-in-Misses c = let a = c.args in record {
-  t_after = hit (name_at a.bundle.now a.properties.now) (layer_in a.bundle.now a.selectors.now)
-      (verdict_in a.bundle.now a.selectors.now a.tests.now a.numbers.now a.zoom a.entity.now
+  t_after = hit (name_at a.tables.now.bundle.now a.tables.now.properties.now) (layer_in a.tables.now.bundle.now a.tables.now.selectors.now)
+      (verdict_in a.tables.now.bundle.now a.tables.now.selectors.now a.tables.now.tests.now a.tables.now.numbers.now a.zoom a.entity.now
       a.e) a.t.now a.n a.s (places a.from (a.to - a.from)) _
       c.matches.ensures _ Misses c.in-Misses.is refl;
-  IsBounded = c.requires.0;
+  IsBounded = c.requires;
 }
 
 pub returns-in-Fits : goal.returns-in-Fits
 returns-in-Fits c = let a = c.args in record {
-  t_after = hit (name_at a.bundle.now a.properties.now) (layer_in a.bundle.now a.selectors.now)
-      (verdict_in a.bundle.now a.selectors.now a.tests.now a.numbers.now a.zoom a.entity.now
+  t_after = hit (name_at a.tables.now.bundle.now a.tables.now.properties.now) (layer_in a.tables.now.bundle.now a.tables.now.selectors.now)
+      (verdict_in a.tables.now.bundle.now a.tables.now.selectors.now a.tables.now.tests.now a.tables.now.numbers.now a.zoom a.entity.now
       a.e) a.t.now a.n a.s (places a.from (a.to - a.from)) _
       c.matches.ensures _ Fits
       c.in-Fits.is c.step.ensures.t_after;

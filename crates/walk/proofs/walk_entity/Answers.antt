@@ -5,8 +5,8 @@ use Rattle.walk.proofs.walk_entity.Goals as goal
 
 pub returns-then-total-gt16384 : goal.returns-then-total-gt16384
 returns-then-total-gt16384 c = let a = c.args in record {
-  maps_after = walk_many a.bundle.now a.rules.now a.selectors.now a.tests.now a.properties.now
-      a.numbers.now a.total a.zoom a.entity.now a.e a.multipolygons a.place
+  maps_after = walk_many a.tables.now.bundle.now a.tables.now.rules.now a.tables.now.selectors.now a.tables.now.tests.now a.tables.now.properties.now
+      a.tables.now.numbers.now a.total a.zoom a.entity.now a.e a.multipolygons a.place
       c.if-total-gt16384.true _ c.plain.ensures _
       (zeroed (length a.maps.now) _ c.zero_words.ensures (omega arith));
   few = tt;
@@ -14,8 +14,8 @@ returns-then-total-gt16384 c = let a = c.args in record {
 
 pub returns : goal.returns
 returns c = let a = c.args in record {
-  maps_after = walk_done a.bundle.now a.rules.now a.selectors.now a.tests.now a.properties.now
-      a.numbers.now a.total a.zoom a.entity.now a.e a.multipolygons a.place
+  maps_after = walk_done a.tables.now.bundle.now a.tables.now.rules.now a.tables.now.selectors.now a.tables.now.tests.now a.tables.now.properties.now
+      a.tables.now.numbers.now a.total a.zoom a.entity.now a.e a.multipolygons a.place
       c.if-total-gt16384.false _ (zeroed (length a.maps.now) _ c.zero_words.ensures (omega arith)) _
       c.walk_rules-q.ensures.t_after _ c.finish_maps.ensures.t_after;
   few = c.finish_maps.ensures.few;

@@ -9,9 +9,8 @@ use Rattle.walk.proofs.walk_rule.Goals as goal
 pub loop-s-init : goal.loop-s-init
 loop-s-init c = let a = c.args in
     let h = c.requires in (
-      h.2,
       h.0,
-      rule_is _ _ _ a.rules.now a.t.now a.n a.r _ _ _ _ c.word_at-start.ensures
+      rule_is _ _ _ a.tables.now.rules.now a.t.now a.n a.r _ _ _ _ c.word_at-start.ensures
           c.word_at-end.ensures c.word_at-from.ensures c.word_at-to.ensures,
     )
 
@@ -24,13 +23,12 @@ returns-in_err-m c = let loop = c.loop-s in record {
       _
       c.loop-s-test.true _ _
       c.visit.ensures.t_after _ c.in_err-m.was)
-      ∙ loop.invariant.2;
+      ∙ loop.invariant.1;
   IsBounded = subst IsBounded (sym (handed_on _ c.from_residual.ensures)) tt;
 }
 
 pub loop-s-preserved : goal.loop-s-preserved
 loop-s-preserved c = let loop = c.loop-s in (
-  omega (arith, loop.invariant.0),
   subst IsBounded c.in_ok-m.was c.visit.ensures.IsBounded,
   sym
       (selectors_next _ _ _ loop.t loop.m loop.s
@@ -38,7 +36,7 @@ loop-s-preserved c = let loop = c.loop-s in (
       _
       c.loop-s-test.true _ _
       c.visit.ensures.t_after _ c.in_ok-m.was)
-      ∙ loop.invariant.2,
+      ∙ loop.invariant.1,
 )
 
 pub returns : goal.returns
@@ -46,6 +44,6 @@ returns c = let loop = c.loop-s in record {
   t_after = sym
       (selectors_end _ _ _ loop.t loop.m loop.s c.word_at-end.result _
       c.loop-s-test.false)
-      ∙ loop.invariant.2;
-  IsBounded = loop.invariant.1;
+      ∙ loop.invariant.1;
+  IsBounded = loop.invariant.0;
 }

@@ -8,8 +8,8 @@ use Rattle.walk.specs.Run.{selectors_of, rule_of}
 use Rattle.walk.proofs.walk_rule.Given as goal
 
 abbrev pub invariant-loop-s : goal.invariant-loop-s
-invariant-loop-s l = (length l.t ≡ 4323) × (l.m ≤ 32) ×
-    (selectors_of (name_at l.bundle l.properties) (layer_in l.bundle l.selectors)
-    (verdict_in l.bundle l.selectors l.tests l.numbers l.zoom l.entity l.e) l.t l.m l.s (l.end - l.s) (places l.from (l.to - l.from)) ≡
-    rule_of (name_at l.bundle l.properties) (layer_in l.bundle l.selectors)
-    (verdict_in l.bundle l.selectors l.tests l.numbers l.zoom l.entity l.e) l.rules l.initial.t l.n l.r)
+invariant-loop-s l = (l.m ≤ 32) ×
+    (selectors_of (name_at l.tables.bundle.now l.tables.properties.now) (layer_in l.tables.bundle.now l.tables.selectors.now)
+    (verdict_in l.tables.bundle.now l.tables.selectors.now l.tables.tests.now l.tables.numbers.now l.zoom l.entity l.e) l.t l.m l.s (l.end - l.s) (places l.from (l.to - l.from)) ≡
+    rule_of (name_at l.tables.bundle.now l.tables.properties.now) (layer_in l.tables.bundle.now l.tables.selectors.now)
+    (verdict_in l.tables.bundle.now l.tables.selectors.now l.tables.tests.now l.tables.numbers.now l.zoom l.entity l.e) l.tables.rules.now l.initial.t l.n l.r)

@@ -10,12 +10,11 @@ use Rattle.walk.proofs.walk_rules.Goals as goal
 
 pub loop-r-init : goal.loop-r-init
 loop-r-init c = let a = c.args in (
-  c.requires.1,
   omega arith,
   ap
-      (rules_of (name_at a.bundle.now a.properties.now) (layer_in a.bundle.now a.selectors.now)
-      (verdict_in a.bundle.now a.selectors.now a.tests.now a.numbers.now a.zoom a.entity.now
-      a.e) a.rules.now a.t.now 0 0) (less_zero a.total),
+      (rules_of (name_at a.tables.now.bundle.now a.tables.now.properties.now) (layer_in a.tables.now.bundle.now a.tables.now.selectors.now)
+      (verdict_in a.tables.now.bundle.now a.tables.now.selectors.now a.tables.now.tests.now a.tables.now.numbers.now a.zoom a.entity.now
+      a.e) a.tables.now.rules.now a.t.now 0 0) (less_zero a.total),
 )
 
 pub returns-in_err-m : goal.returns-in_err-m
@@ -23,25 +22,24 @@ returns-in_err-m c = let a = c.args in
     let loop = c.loop-r in record {
       t_after = told_stop _ _ _ _ refl (handed_on _ c.from_residual.ensures)
           ∙ sym
-          (rules_stop _ _ _ a.rules.now loop.t loop.m loop.r a.total
+          (rules_stop _ _ _ a.tables.now.rules.now loop.t loop.m loop.r a.total
           c.loop-r-test.true _ _
           c.walk_rule.ensures.t_after _ c.in_err-m.was)
-          ∙ loop.invariant.2;
+          ∙ loop.invariant.1;
       IsBounded = subst IsBounded (sym (handed_on _ c.from_residual.ensures)) tt;
     }
 
 pub loop-r-preserved : goal.loop-r-preserved
 loop-r-preserved c = let a = c.args in
     let loop = c.loop-r in (
-      omega (arith, loop.invariant.0),
       subst IsBounded c.in_ok-m.was c.walk_rule.ensures.IsBounded,
       sym
-          (rules_next _ _ _ a.rules.now loop.t loop.m loop.r a.total
+          (rules_next _ _ _ a.tables.now.rules.now loop.t loop.m loop.r a.total
           c.loop-r-test.true _ _
           c.walk_rule.ensures.t_after _ c.in_ok-m.was)
-          ∙ loop.invariant.2,
+          ∙ loop.invariant.1,
     )
 
 pub returns : goal.returns
 returns c = let a = c.args in
-    let loop = c.loop-r in record { t_after = sym (rules_end _ _ _ a.rules.now loop.t loop.m loop.r a.total c.loop-r-test.false) ∙ loop.invariant.2; IsBounded = loop.invariant.1 }
+    let loop = c.loop-r in record { t_after = sym (rules_end _ _ _ a.tables.now.rules.now loop.t loop.m loop.r a.total c.loop-r-test.false) ∙ loop.invariant.1; IsBounded = loop.invariant.0 }

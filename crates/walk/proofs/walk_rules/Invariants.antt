@@ -8,8 +8,8 @@ use Rattle.walk.specs.Run.{rules_of}
 use Rattle.walk.proofs.walk_rules.Given as goal
 
 abbrev pub invariant-loop-r : goal.invariant-loop-r
-invariant-loop-r l = (length l.t ≡ 4323) × (l.m ≤ 32) ×
-    (rules_of (name_at l.bundle l.properties) (layer_in l.bundle l.selectors)
-    (verdict_in l.bundle l.selectors l.tests l.numbers l.zoom l.entity l.e) l.rules l.t l.m l.r (l.total - l.r) ≡ rules_of
-    (name_at l.bundle l.properties) (layer_in l.bundle l.selectors)
-    (verdict_in l.bundle l.selectors l.tests l.numbers l.zoom l.entity l.e) l.rules l.initial.t 0 0 l.total)
+invariant-loop-r l = (l.m ≤ 32) ×
+    (rules_of (name_at l.tables.bundle.now l.tables.properties.now) (layer_in l.tables.bundle.now l.tables.selectors.now)
+    (verdict_in l.tables.bundle.now l.tables.selectors.now l.tables.tests.now l.tables.numbers.now l.zoom l.entity l.e) l.tables.rules.now l.t l.m l.r (l.total - l.r) ≡ rules_of
+    (name_at l.tables.bundle.now l.tables.properties.now) (layer_in l.tables.bundle.now l.tables.selectors.now)
+    (verdict_in l.tables.bundle.now l.tables.selectors.now l.tables.tests.now l.tables.numbers.now l.zoom l.entity l.e) l.tables.rules.now l.initial.t 0 0 l.total)

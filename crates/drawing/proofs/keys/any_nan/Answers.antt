@@ -2,22 +2,22 @@ use Rattle.drawing.proofs.KeyLaws.{nan_start, nan_end, nan_skip, nan_found, nan_
 use Rattle.drawing.proofs.keys.any_nan.Goals as goal
 
 pub loop-i-init : goal.loop-i-init
-loop-i-init c = let a = c.args in
-    nan_start a.bundle.now a.selectors.now a.properties.now a.numbers.now a.maps.now a.m a.kind
+loop-i-init c = let a = c.args in let t = a.tables.now in
+    nan_start t.bundle.now t.selectors.now t.properties.now t.numbers.now a.maps.now a.m a.kind
 
 pub loop-i-preserved-then-is_layer : goal.loop-i-preserved-then-is_layer
-loop-i-preserved-then-is_layer c = let a = c.args in
+loop-i-preserved-then-is_layer c = let a = c.args in let t = a.tables.now in
     let l = c.loop-i in
-    nan_skip a.bundle.now a.selectors.now a.properties.now a.numbers.now a.maps.now a.m a.kind
+    nan_skip t.bundle.now t.selectors.now t.properties.now t.numbers.now a.maps.now a.m a.kind
     l.i
     c.loop-i-test.true _
     c.word_at.ensures _ c.is_layer.ensures l.invariant
     c.if-is_layer.true
 
 pub returns-then-z : goal.returns-then-z
-returns-then-z c = let a = c.args in
+returns-then-z c = let a = c.args in let t = a.tables.now in
     let l = c.loop-i in
-    nan_found a.bundle.now a.selectors.now a.properties.now a.numbers.now a.maps.now a.m a.kind
+    nan_found t.bundle.now t.selectors.now t.properties.now t.numbers.now a.maps.now a.m a.kind
     l.i
     c.loop-i-test.true _
     c.word_at.ensures _
@@ -25,9 +25,9 @@ returns-then-z c = let a = c.args in
     _ c.row_of.ensures _ c.z_index-z.ensures c.if-z.true
 
 pub loop-i-preserved : goal.loop-i-preserved
-loop-i-preserved c = let a = c.args in
+loop-i-preserved c = let a = c.args in let t = a.tables.now in
     let l = c.loop-i in
-    nan_next a.bundle.now a.selectors.now a.properties.now a.numbers.now a.maps.now a.m a.kind
+    nan_next t.bundle.now t.selectors.now t.properties.now t.numbers.now a.maps.now a.m a.kind
     l.i
     c.loop-i-test.true _
     c.word_at.ensures _
@@ -36,6 +36,6 @@ loop-i-preserved c = let a = c.args in
     _ c.row_of.ensures _ c.z_index-z.ensures c.if-z.false
 
 pub returns : goal.returns
-returns c = let a = c.args in
-    nan_end a.bundle.now a.selectors.now a.properties.now a.numbers.now a.maps.now a.m a.kind
+returns c = let a = c.args in let t = a.tables.now in
+    nan_end t.bundle.now t.selectors.now t.properties.now t.numbers.now a.maps.now a.m a.kind
     c.loop-i.i c.loop-i-test.false c.loop-i.invariant

@@ -8,13 +8,11 @@ use Rattle.walk.proofs.LayerLaws.{all_end, all_stop, all_next, less_zero, told_s
 use Rattle.walk.proofs.layers.assign_all.Goals as goal
 
 pub loop-i-init : goal.loop-i-init
-loop-i-init c = let a = c.args in (
-  c.requires.1,
-  ap
-      (λ k.
-      assign_all (name_at a.bundle.now a.properties.now) a.t.now a.m 0 k
-      (places a.from (a.to - a.from))) (less_zero a.m),
-)
+loop-i-init c = let a = c.args in
+    ap
+    (λ k.
+    assign_all (name_at a.tables.now.bundle.now a.tables.now.properties.now) a.t.now a.m 0 k
+    (places a.from (a.to - a.from))) (less_zero a.m)
 
 pub returns-in_err-assign_layer : goal.returns-in_err-assign_layer
 returns-in_err-assign_layer c = let loop = c.loop-i in record {
@@ -25,25 +23,23 @@ returns-in_err-assign_layer c = let loop = c.loop-i in record {
       loop.i _
       c.loop-i-test.true _ _
       c.assign_layer.ensures.t_after _ c.in_err-assign_layer.was)
-      ∙ loop.invariant.1;
+      ∙ loop.invariant;
   IsBounded = subst IsBounded (sym (handed_on _ c.from_residual.ensures)) tt;
 }
 
 pub loop-i-preserved : goal.loop-i-preserved
-loop-i-preserved c = let loop = c.loop-i in (
-  omega (arith, loop.invariant.0),
-  sym
-      (all_next _ loop.t
-      c.args.m
-      loop.i _
-      c.loop-i-test.true _ _
-      c.assign_layer.ensures.t_after _ c.in_ok-assign_layer.was)
-      ∙ loop.invariant.1,
-)
+loop-i-preserved c = let loop = c.loop-i in
+    sym
+    (all_next _ loop.t
+    c.args.m
+    loop.i _
+    c.loop-i-test.true _ _
+    c.assign_layer.ensures.t_after _ c.in_ok-assign_layer.was)
+    ∙ loop.invariant
 
 pub returns : goal.returns
 returns c = let loop = c.loop-i in record {
   t_after = sym (all_end _ loop.t c.args.m loop.i _ c.loop-i-test.false)
-      ∙ loop.invariant.1;
-  IsBounded = c.requires.0;
+      ∙ loop.invariant;
+  IsBounded = c.requires;
 }

@@ -7,6 +7,5 @@ use Rattle.walk.specs.Run.{assign_all}
 use Rattle.walk.proofs.layers.assign_all.Given as goal
 
 abbrev pub invariant-loop-i : goal.invariant-loop-i
-invariant-loop-i l = (length l.t ≡ 4323) ×
-    (assign_all (name_at l.bundle l.properties) l.t l.m l.i (l.m - l.i) (places l.from (l.to - l.from)) ≡ assign_all
-    (name_at l.bundle l.properties) l.initial.t l.m 0 l.m (places l.from (l.to - l.from)))
+invariant-loop-i l = assign_all (name_at l.tables.bundle.now l.tables.properties.now) l.t l.m l.i (l.m - l.i) (places l.from (l.to - l.from)) ≡ assign_all
+    (name_at l.tables.bundle.now l.tables.properties.now) l.initial.t l.m 0 l.m (places l.from (l.to - l.from))

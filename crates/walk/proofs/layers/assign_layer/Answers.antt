@@ -9,8 +9,8 @@ returns-then-k-lt129 c = let a = c.args in
     let h = c.requires in
     let call = c.assign_range-k in
     let done =
-    assign_done (name_at a.bundle.now a.properties.now) a.t.now _ (places a.from (a.to - a.from)) a.m
-    a.i call.result h.1 h.2 (a.i * 131 + 1 + 1 + 129 - (a.i * 131 + 1 + 1)) (omega arith)
+    assign_done (name_at a.tables.now.bundle.now a.tables.now.properties.now) a.t.now _ (places a.from (a.to - a.from)) a.m
+    a.i call.result h.1 (omega arith) (a.i * 131 + 1 + 1 + 129 - (a.i * 131 + 1 + 1)) (omega arith)
     call.ensures.used call.ensures.kept in
     record { t_after = done.0 (omega arith); IsBounded = h.0 }
 
@@ -19,7 +19,7 @@ returns c = let a = c.args in
     let h = c.requires in
     let call = c.assign_range-k in
     let done =
-    assign_done (name_at a.bundle.now a.properties.now) a.t.now _ (places a.from (a.to - a.from)) a.m
-    a.i call.result h.1 h.2 (a.i * 131 + 1 + 1 + 129 - (a.i * 131 + 1 + 1)) (omega arith)
+    assign_done (name_at a.tables.now.bundle.now a.tables.now.properties.now) a.t.now _ (places a.from (a.to - a.from)) a.m
+    a.i call.result h.1 (omega arith) (a.i * 131 + 1 + 1 + 129 - (a.i * 131 + 1 + 1)) (omega arith)
     call.ensures.used call.ensures.kept in
     record { t_after = done.1 (omega arith); IsBounded = tt }

@@ -8,17 +8,17 @@ pub returns-then-word_of-ne1 : goal.returns-then-word_of-ne1
 returns-then-word_of-ne1 c = let a = c.args in
     c.find_named.ensures
     ∙ ap
-    (λ l. seek (layer_in a.bundle.now a.selectors.now) a.t.now l 0 a.n)
+    (λ l. seek (layer_in a.tables.now.bundle.now a.tables.now.selectors.now) a.t.now l 0 a.n)
     (sym
-    (default_layer a.bundle.now a.selectors.now a.s _ c.word_of.ensures
+    (default_layer a.tables.now.bundle.now a.tables.now.selectors.now a.s _ c.word_of.ensures
     c.if-word_of-ne1.true))
 
 pub returns : goal.returns
 returns c = let a = c.args in
     c.find_named-2.ensures
     ∙ ap
-    (λ l. seek (layer_in a.bundle.now a.selectors.now) a.t.now l 0 a.n)
-    (named_layer a.bundle.now a.selectors.now a.s _
+    (λ l. seek (layer_in a.tables.now.bundle.now a.tables.now.selectors.now) a.t.now l 0 a.n)
+    (named_layer a.tables.now.bundle.now a.tables.now.selectors.now a.s _
     c.word_of.ensures
     c.if-word_of-ne1.false _ _ _
     c.word_of-2.ensures c.word_of-3.ensures
