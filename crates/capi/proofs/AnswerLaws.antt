@@ -11,63 +11,61 @@ use Rattle.parser.specs.Load.{Held}
 use Rattle.styles.specs.declared.EntityStyles.{EntityStyles}
 use Rattle.styles.specs.declared.StyledLayer.{StyledLayer}
 use Rattle.style_rows.specs.Rows.{row_words, row_floats, row_layer}
-use Rattle.answer_words.specs.Words.{five_words, six_words}
-use Rattle.answers.specs.Answers.{told_load, told_maps, told_styles, count_of, told_list}
-use Rattle.answer_words.specs.declared.Five.{Five}
-use Rattle.answer_words.specs.declared.Six.{Six}
+use Rattle.answers.specs.Answers.{told_load, told_count, count_of}
+use Rattle.answer_words.specs.declared.Answer.{Answer}
 use Rattle.capi.specs.Answered.{styled_layers, Told, LoadAnswered, MapsAnswered, StylesAnswered, ListAnswered}
 use Rattle.std.specs.Prelude.{Result, Err}
 use Rattle.parser.specs.declared.Counts.{Counts}
 
 -- a load's answer, told
 pub load_told :
-    {x : Result Counts Refusal × Held} {r : Result Counts Refusal} {h : Held} {s : Six} {out out' : List ℕ}
+    {x : Result Counts Refusal × Held} {r : Result Counts Refusal} {h : Held} {s : Answer 6} {out out' : List ℕ}
     → (r, h) ≡ x
     → s ≡ told_load r
-    → out' ≡ stored out 0 (six_words s)
+    → out' ≡ stored out 0 s.words
     → LoadAnswered x s.kind h out out'
 load_told {out = out} e f g =
     let a = f ∙ ap (λ (y : Result Counts Refusal × Held). told_load y.0) e in
     record {
-      kind = ap (λ (s : Six). s.kind) a;
+      kind = ap (λ (s : Answer 6). s.kind) a;
       left_tables = ap (λ (y : Result Counts Refusal × Held). y.1) e;
-      stored_words = g ∙ ap (λ (s : Six). stored out 0 (six_words s)) a;
+      stored_words = g ∙ ap (λ (s : Answer 6). stored out 0 s.words) a;
     }
 
-pub told_five : {s f : Five} {out out' : List ℕ} → f ≡ s → out' ≡ stored out 0 (five_words f) → Told s f.kind out out'
+pub told_five : {s f : Answer 5} {out out' : List ℕ} → f ≡ s → out' ≡ stored out 0 f.words → Told s f.kind out out'
 told_five {out = out} e g =
     record {
-      kind = ap (λ (s : Five). s.kind) e;
-      stored_words = g ∙ ap (λ (s : Five). stored out 0 (five_words s)) e;
+      kind = ap (λ (s : Answer 5). s.kind) e;
+      stored_words = g ∙ ap (λ (s : Answer 5). stored out 0 s.words) e;
     }
 
 pub maps_told :
-    {x : Result ℕ Refusal × List ℕ} {r : Result ℕ Refusal} {t : List ℕ} {s : Five} {out out' : List ℕ}
+    {x : Result ℕ Refusal × List ℕ} {r : Result ℕ Refusal} {t : List ℕ} {s : Answer 5} {out out' : List ℕ}
     → (r, t) ≡ x
-    → s ≡ told_maps r
-    → out' ≡ stored out 0 (five_words s)
+    → s ≡ told_count r
+    → out' ≡ stored out 0 s.words
     → MapsAnswered x s.kind t out out'
 maps_told e f g =
     record {
-      told = told_five (f ∙ ap (λ (y : Result ℕ Refusal × List ℕ). told_maps y.0) e) g;
+      told = told_five (f ∙ ap (λ (y : Result ℕ Refusal × List ℕ). told_count y.0) e) g;
       left_maps = ap (λ (y : Result ℕ Refusal × List ℕ). y.1) e;
     }
 
 pub styles_told :
-    {x y : EntityStyles} {n : ℕ} {f : Five} {words out out' : List ℕ} {floats : List Float} {layers : List ℤ}
+    {x y : EntityStyles} {n : ℕ} {f : Answer 5} {words out out' : List ℕ} {floats : List Float} {layers : List ℤ}
     → y ≡ x
     → n ≡ count_of y.answer
     → words ≡ padded 0 1664 (flat (map row_words (take n y.layers)))
     → floats ≡ padded zero_float 192 (flat (map row_floats (take n y.layers)))
     → layers ≡ padded (pos 0) 32 (map row_layer (take n y.layers))
-    → f ≡ told_styles y.answer
-    → out' ≡ stored out 0 (five_words f)
+    → f ≡ told_count y.answer
+    → out' ≡ stored out 0 f.words
     → StylesAnswered x f.kind words floats layers out out'
 styles_told {x} {y} {n} e c w f l a o =
     let t : take n y.layers ≡ styled_layers x =
     ap (λ (k : ℕ). take k y.layers) c ∙ ap styled_layers e in
     record {
-      told = told_five (a ∙ ap (λ (y : EntityStyles). told_styles y.answer) e) o;
+      told = told_five (a ∙ ap (λ (y : EntityStyles). told_count y.answer) e) o;
       left_words = w ∙ ap (λ (ls : List StyledLayer). padded 0 1664 (flat (map row_words ls))) t;
       left_floats = f ∙ ap (λ (ls : List StyledLayer). padded zero_float 192 (flat (map row_floats ls))) t;
       left_layers = l ∙ ap (λ (ls : List StyledLayer). padded (pos 0) 32 (map row_layer ls)) t;
@@ -90,13 +88,13 @@ refused_zero {x} q s =
     )
 
 pub list_told :
-    {x : Result ℕ Refusal × List ℕ} {q : Result ℕ Refusal} {list : List ℕ} {f : Five} {out out' : List ℕ}
+    {x : Result ℕ Refusal × List ℕ} {q : Result ℕ Refusal} {list : List ℕ} {f : Answer 5} {out out' : List ℕ}
     → (q, list) ≡ x
-    → f ≡ told_list q
-    → out' ≡ stored out 0 (five_words f)
+    → f ≡ told_count q
+    → out' ≡ stored out 0 f.words
     → ListAnswered x f.kind list out out'
 list_told e a o =
     record {
-      told = told_five (a ∙ ap (λ (y : Result ℕ Refusal × List ℕ). told_list y.0) e) o;
+      told = told_five (a ∙ ap (λ (y : Result ℕ Refusal × List ℕ). told_count y.0) e) o;
       left_list = ap (λ (y : Result ℕ Refusal × List ℕ). y.1) e;
     }

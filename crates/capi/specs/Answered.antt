@@ -5,26 +5,25 @@ use Rattle.parser.specs.Load.{Held}
 use Rattle.styles.specs.declared.EntityStyles.{EntityStyles}
 use Rattle.styles.specs.declared.StyledLayer.{StyledLayer}
 use Rattle.style_rows.specs.Rows.{row_words, row_floats, row_layer}
-use Rattle.answer_words.specs.Words.{five_words, six_words}
-use Rattle.answers.specs.Answers.{told_load, told_maps, told_styles, count_of, told_list}
-use Rattle.answer_words.specs.declared.Five.{Five}
+use Rattle.answers.specs.Answers.{told_load, told_count, count_of}
+use Rattle.answer_words.specs.declared.Answer.{Answer}
 use Rattle.base.specs.declared.refusal.Refusal.{Refusal}
 use Rattle.parser.specs.declared.Counts.{Counts}
 
 -- an answer's number, and its five words in out
-pub record Told (s : Five) (r : ℕ) (out out' : List ℕ) : Type 0 where
+pub record Told (s : Answer 5) (r : ℕ) (out out' : List ℕ) : Type 0 where
   pub kind : r ≡ s.kind
-  pub stored_words : out' ≡ stored out 0 (five_words s)
+  pub stored_words : out' ≡ stored out 0 s.words
 
 -- a load: the answer's six words, and the tables
 pub record LoadAnswered (x : Result Counts Refusal × Held) (r : ℕ) (tables : Held) (out out' : List ℕ) : Type 0 where
   pub kind : r ≡ (told_load x.0).kind
   pub left_tables : tables ≡ x.1
-  pub stored_words : out' ≡ stored out 0 (six_words (told_load x.0))
+  pub stored_words : out' ≡ stored out 0 (told_load x.0).words
 
 -- property maps
 pub record MapsAnswered (x : Result ℕ Refusal × List ℕ) (r : ℕ) (maps out out' : List ℕ) : Type 0 where
-  pub told : Told (told_maps x.0) r out out'
+  pub told : Told (told_count x.0) r out out'
   pub left_maps : maps ≡ x.1
 
 -- the styled layers of an answer
@@ -33,12 +32,12 @@ styled_layers x = take (count_of x.answer) x.layers
 
 -- styles: a row for each styled layer, then zeros
 pub record StylesAnswered (x : EntityStyles) (r : ℕ) (words : List ℕ) (floats : List Float) (layers : List ℤ) (out out' : List ℕ) : Type 0 where
-  pub told : Told (told_styles x.answer) r out out'
+  pub told : Told (told_count x.answer) r out out'
   pub left_words : words ≡ padded 0 1664 (flat (map row_words (styled_layers x)))
   pub left_floats : floats ≡ padded zero_float 192 (flat (map row_floats (styled_layers x)))
   pub left_layers : layers ≡ padded (pos 0) 32 (map row_layer (styled_layers x))
 
 -- a drawing list
 pub record ListAnswered (x : Result ℕ Refusal × List ℕ) (r : ℕ) (list out out' : List ℕ) : Type 0 where
-  pub told : Told (told_list x.0) r out out'
+  pub told : Told (told_count x.0) r out out'
   pub left_list : list ≡ x.1

@@ -33,8 +33,8 @@ ghost use Rattle.settings.specs.Settings.{counts_at, type_of, settings_of};
 ghost use Rattle.answers.specs.Answers.{told_canvas};
 ghost use Rattle.capi.specs.Answered.{Told, LoadAnswered, MapsAnswered, StylesAnswered, ListAnswered};
 
-use answer_words::{store_five, store_six};
-use answers::{count_of, told_canvas, told_list, told_load, told_maps, told_styles};
+use answer_words::store_words;
+use answers::{count_of, told_canvas, told_count, told_load};
 use canvas::canvas_fill_color;
 use parser::load;
 use settings::{counts_at, settings_of, type_of};
@@ -55,7 +55,7 @@ pub fn mapcss_load(
     ensures { LoadAnswered (load_of bundle.now (lengths (length rules.old) (length selectors.old) (length tests.old) (length properties.old) (length numbers.old) (length colors.old))) result (held rules.new selectors.new tests.new properties.new numbers.new colors.new) out.old out.new }
 {
     let six = told_load(load(bundle, rules, selectors, tests, properties, numbers, colors));
-    store_six(out, six);
+    store_words(out, &six.words);
     six.kind
 }
 
@@ -83,8 +83,8 @@ pub fn mapcss_property_maps(
         numbers,
     };
     let n = counts_at(counts);
-    let told = told_maps(property_maps(&tables, n, zoom, entity, maps));
-    store_five(out, told);
+    let told = told_count(property_maps(&tables, n, zoom, entity, maps));
+    store_words(out, &told.words);
     told.kind
 }
 
@@ -125,8 +125,8 @@ pub fn mapcss_styles(
     let answer = x.answer;
     let all = x.layers;
     store_layers(all, count_of(answer), words, floats, layers);
-    let five = told_styles(answer);
-    store_five(out, five);
+    let five = told_count(answer);
+    store_words(out, &five.words);
     five.kind
 }
 
@@ -156,7 +156,7 @@ pub fn mapcss_canvas_color(
         counts_at(counts),
         type_of(style_type),
     ));
-    store_five(out, five);
+    store_words(out, &five.words);
     five.kind
 }
 
@@ -186,7 +186,7 @@ pub fn mapcss_style_entities(
         properties,
         numbers,
     };
-    let five = told_list(drawing::style_entities(
+    let five = told_count(drawing::style_entities(
         &tables,
         counts_at(counts),
         zoom,
@@ -194,7 +194,7 @@ pub fn mapcss_style_entities(
         nodes,
         list,
     ));
-    store_five(out, five);
+    store_words(out, &five.words);
     five.kind
 }
 
@@ -225,7 +225,7 @@ pub fn mapcss_style_areas(
         properties,
         numbers,
     };
-    let five = told_list(drawing::style_areas(
+    let five = told_count(drawing::style_areas(
         &tables,
         counts_at(counts),
         zoom,
@@ -234,6 +234,6 @@ pub fn mapcss_style_areas(
         multipolygons,
         list,
     ));
-    store_five(out, five);
+    store_words(out, &five.words);
     five.kind
 }

@@ -24,4 +24,4 @@ returns c = let a =
     canvas_of a.bundle.now a.rules.now a.selectors.now a.tests.now a.properties.now
     a.numbers.now (counts_at a.counts.now) t)
     c.type_of.ensures))
-    c.store_five.ensures
+    c.store_words.ensures

@@ -24,5 +24,5 @@ returns c = let a =
     a.numbers.now (counts_at a.counts.now) a.zoom s (length a.list.now)
     a.nodes.now)
     c.settings_of.ensures)
-    c.told_list-five.ensures
-    c.store_five.ensures
+    c.told_count-five.ensures
+    c.store_words.ensures

@@ -25,5 +25,5 @@ returns c = let a = c.args in
     t.words_after
     t.floats_after
     t.layers_after
-    c.told_styles-five.ensures
-    c.store_five.ensures
+    c.told_count-five.ensures
+    c.store_words.ensures
