@@ -159,58 +159,64 @@ fn decimal_number(t: &[u8], minus: bool) -> TagNumber
     }
 }
 
+// The sign and the digits of a number that a float holds as they are.
+#[derive(Clone, Copy)]
+struct Significand {
+    minus: bool,
+    d: u64,
+    ghost exact: { d < 2 ^ 53 },
+}
+
 // The number of digits d and the exponent ± p less n decimals.
 fn value_of(minus: bool, d: u64, down: bool, p: u64, n: usize) -> TagNumber
     requires { n < 2 ^ 63 }
     ensures { result ≡ told (value_of (some (decimal minus d (with_sign down p -ℤ pos n)))) }
 {
     if d == 0 {
-        return TagNumber::Reads(with_sign(minus, 0));
+        return TagNumber::Reads(with_sign(Significand { minus, d: 0 }));
     }
     if d < 9007199254740992 {
-        return scale(minus, d, down, p, n as u64);
+        return scale(Significand { minus, d }, down, p, n as u64);
     }
     TagNumber::OutOfRange
 }
 
-// d times ten to the exponent ± p less n.
-fn scale(minus: bool, d: u64, down: bool, p: u64, n: u64) -> TagNumber
-    requires { (d < 2 ^ 53) × (n < 2 ^ 63) }
-    ensures { result ≡ told (scaled minus d (with_sign down p -ℤ pos n)) }
+// x times ten to the exponent ± p less n.
+fn scale(x: Significand, down: bool, p: u64, n: u64) -> TagNumber
+    requires { n < 2 ^ 63 }
+    ensures { result ≡ told (scaled x.minus x.d (with_sign down p -ℤ pos n)) }
 {
     if down {
         if 22 < p {
             return TagNumber::OutOfRange;
         }
-        return divide(minus, d, p + n);
+        return divide(x, p + n);
     }
     if p < n {
-        return divide(minus, d, n - p);
+        return divide(x, n - p);
     }
-    multiply(minus, d, p - n)
+    multiply(x, p - n)
 }
 
 // One multiplication of exact operands.
-fn multiply(minus: bool, d: u64, k: u64) -> TagNumber
-    requires { d < 2 ^ 53 }
-    ensures { result ≡ told (scaled minus d (pos k)) }
+fn multiply(x: Significand, k: u64) -> TagNumber
+    ensures { result ≡ told (scaled x.minus x.d (pos k)) }
 {
     if k <= 22 {
-        return TagNumber::Reads(with_sign(minus, d) * ten(k as usize));
+        return TagNumber::Reads(with_sign(x) * ten(k as usize));
     }
     TagNumber::OutOfRange
 }
 
 // One division of exact operands; by 10 ^ 0 it is the multiplication.
-fn divide(minus: bool, d: u64, k: u64) -> TagNumber
-    requires { d < 2 ^ 53 }
-    ensures { result ≡ told (scaled minus d (neg_ℤ (pos k))) }
+fn divide(x: Significand, k: u64) -> TagNumber
+    ensures { result ≡ told (scaled x.minus x.d (neg_ℤ (pos k))) }
 {
     if k == 0 {
-        return multiply(minus, d, 0);
+        return multiply(x, 0);
     }
     if k <= 22 {
-        return TagNumber::Reads(with_sign(minus, d) / ten(k as usize));
+        return TagNumber::Reads(with_sign(x) / ten(k as usize));
     }
     TagNumber::OutOfRange
 }
@@ -223,13 +229,12 @@ fn ten(k: usize) -> f64
     TENS[k]
 }
 
-// d with a sign.
-fn with_sign(minus: bool, d: u64) -> f64
-    requires { d < 2 ^ 53 }
-    ensures { result ≡ signed minus d }
+// d with its sign.
+fn with_sign(x: Significand) -> f64
+    ensures { result ≡ signed x.minus x.d }
 {
-    let x = d as f64;
-    if minus { -x } else { x }
+    let d = x.d as f64;
+    if x.minus { -d } else { d }
 }
 
 // Whether a minus stands first.

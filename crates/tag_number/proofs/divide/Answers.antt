@@ -9,13 +9,13 @@ use Rattle.tag_number.proofs.divide.Goals as goal
 pub returns-then-k-eq0 : goal.returns-then-k-eq0
 returns-then-k-eq0 c = c.multiply.ensures
     ∙ ap
-    (λ (k : ℕ). told (scaled c.args.minus c.args.d (neg_ℤ (pos k))))
+    (λ (k : ℕ). told (scaled c.args.x.minus c.args.x.d (neg_ℤ (pos k))))
     (sym c.if-k-eq0.true)
 
 pub returns-then-k-le22 : goal.returns-then-k-le22
-returns-then-k-le22 c = divided c.args.minus c.args.d
+returns-then-k-le22 c = divided c.args.x.minus c.args.x.d
     c.args.k _ _ c.if-k-eq0.false
     c.if-k-le22.true c.with_sign.ensures c.ten.ensures
 
 pub returns : goal.returns
-returns c = divided_out c.args.minus c.args.d c.args.k c.if-k-le22.false
+returns c = divided_out c.args.x.minus c.args.x.d c.args.k c.if-k-le22.false

@@ -2,9 +2,9 @@ use Rattle.tag_number.proofs.Scaled.{multiplied, multiplied_out}
 use Rattle.tag_number.proofs.multiply.Goals as goal
 
 pub returns-then-k-le22 : goal.returns-then-k-le22
-returns-then-k-le22 c = multiplied c.args.minus c.args.d
+returns-then-k-le22 c = multiplied c.args.x.minus c.args.x.d
     c.args.k _ _ c.if-k-le22.true c.with_sign.ensures
     c.ten.ensures
 
 pub returns : goal.returns
-returns c = multiplied_out c.args.minus c.args.d c.args.k c.if-k-le22.false
+returns c = multiplied_out c.args.x.minus c.args.x.d c.args.k c.if-k-le22.false

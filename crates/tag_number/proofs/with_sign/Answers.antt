@@ -5,12 +5,12 @@ use lib.Dec.{le→leb}
 use lib.Ieee.{in_float}
 use Rattle.tag_number.proofs.with_sign.Goals as goal
 
-pub int_to_float-x : goal.int_to_float-x
+pub int_to_float-d : goal.int_to_float-d
 unfolding in_float
-int_to_float-x c = le→leb c.args.d (2 ^ 53) (omega arith)
+int_to_float-d c = le→leb c.args.x.d (2 ^ 53) (omega arith)
 
-pub returns-then-minus : goal.returns-then-minus
-returns-then-minus c = rw c.if-minus.true refl
+pub returns-then-x : goal.returns-then-x
+returns-then-x c = rw c.if-x.true refl
 
-pub returns-else-minus : goal.returns-else-minus
-returns-else-minus c = rw c.if-minus.false refl
+pub returns-else-x : goal.returns-else-x
+returns-else-x c = rw c.if-x.false refl
