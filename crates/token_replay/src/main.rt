@@ -89,8 +89,7 @@ fn size_of(kind: u64) -> usize
     }
 }
 
-fn is_answer(answer: &[u8], a: Answer) -> bool
-{
+fn is_answer(answer: &[u8], a: Answer) -> bool {
     let words = a.words;
     let kind = a.kind;
     if !is_byte(answer, 0, kind) {
@@ -104,15 +103,12 @@ fn is_answer(answer: &[u8], a: Answer) -> bool
                 && is_short(answer, 4, words[8])
         }
         _ => {
-            is_short(answer, 1, words[4])
-                && is_short(answer, 3, words[5])
-                && is_payload(answer, a)
+            is_short(answer, 1, words[4]) && is_short(answer, 3, words[5]) && is_payload(answer, a)
         }
     }
 }
 
-fn is_payload(answer: &[u8], a: Answer) -> bool
-{
+fn is_payload(answer: &[u8], a: Answer) -> bool {
     let words = a.words;
     let kind = a.kind;
     let number = a.number;

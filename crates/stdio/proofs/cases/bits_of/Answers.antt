@@ -1,5 +1,5 @@
 -- Of all NaN the bits are those that `to_bits` gives of the one value.
-use Rattle.std.proofs.Common.{◌≡◌, true, false, refl}
+use Rattle.std.proofs.Common.{◌≡◌, true, refl}
 use mathlib.Core.Bool.{true≢false}
 use lib.Ieee.{Float, nan, inf, fin, is_nan, to_bits, binary64}
 use Rattle.stdio.proofs.cases.bits_of.Goals as goal

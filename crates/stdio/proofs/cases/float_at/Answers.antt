@@ -1,5 +1,5 @@
 -- Above infinity's bits stand those of NaN, which is one value.
-use Rattle.std.proofs.Common.{◌≡◌, ℕ, ◌%◌, ◌^◌, ◌<◌, true, false, refl, sym, ap, ◌∙◌, arith}
+use Rattle.std.proofs.Common.{◌≡◌, ℕ, ◌%◌, ◌^◌, ◌<◌, true, refl, sym, ap, ◌∙◌, arith}
 use mathlib.Core.Bool.{true≢false}
 use lib.Ieee.{Float, nan, inf, fin, is_nan, of_bits, binary64}
 use lib.Ieee.Bits.{nan_bits_is, nan_bits_above}

@@ -1,5 +1,5 @@
 -- Each turn adds one case, by what it answered.
-use Rattle.std.proofs.Common.{arith, ◌≡◌, ℕ, ◌+◌, Bool, true, false, subst, refl, Option, Some, None}
+use Rattle.std.proofs.Common.{arith, ◌≡◌, ℕ, ◌+◌, Bool, true, false, subst, refl, Option, Some}
 use Rattle.stdio.specs.Cases.{Ran, none, same, other, broken}
 use Rattle.stdio.proofs.cases.run_all.Goals.{in-None+in_ok-line-in-None, in-Some-default-true, in-Some-default-false+in_ok-line-in-Some-default-false}
 use Rattle.stdio.proofs.cases.run_all.Goals as goal

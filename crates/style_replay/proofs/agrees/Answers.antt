@@ -1,6 +1,0 @@
-use lib.Seq.{length-take-le}
-use borrow.Author.Rules.{rules}
-use Rattle.style_replay.proofs.agrees.Goals as goal
-
-pub slice_bounds-styles_as-end-7 : goal.slice_bounds-styles_as-end-7
-slice_bounds-styles_as-end-7 c = search (rules, length-take-le)
