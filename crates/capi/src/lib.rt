@@ -151,11 +151,7 @@ pub fn mapcss_canvas_color(
         properties,
         numbers,
     };
-    let five = told_canvas(canvas_fill_color(
-        &tables,
-        counts_at(counts),
-        type_of(style_type),
-    ));
+    let five = told_canvas(canvas_fill_color(&tables, counts_at(counts), type_of(style_type)));
     store_five(out, five);
     five.kind
 }
