@@ -5,11 +5,11 @@ use mathlib.Core.Bool.{Bool}
 use mathlib.Core.List.{List, [], ◌∷◌, ◌++◌, map, map-map, map-append, append-nil}
 use native.Mathlib.Omega.{arith}
 use native.Mathlib.Numerals.{add-one}
-use lib.ListN.{length, take, drop, get_or, set, replicate, length-append, drop_of_length-le, length-drop}
+use lib.ListN.{length, take, drop, get_or, set, length-append, drop_of_length-le, length-drop}
 use lib.Seq.{take-suc, drop-cons, set_at, append_snoc, length-take-le, take_at, drop_at, take_all}
 use Rattle.base.specs.Choice.{by-test}
 use Rattle.base.specs.Table.{padded, flat}
-use Rattle.base.proofs.Tables.{padded_none, padded_entry}
+use Rattle.base.proofs.Tables.{padded_entry}
 use Rattle.cascade.specs.Sort.{place, sort}
 use Rattle.cascade.proofs.SortLaws.{sort_map}
 use Rattle.decode.specs.Decode.{places}
@@ -62,9 +62,6 @@ module _ (keys : List Key) (order : List ℕ) (len : ℕ) where
   length_entries [] = refl
   length_entries (i ∷ is) = omega (arith, length_entries is)
 
-  pub write_start : (u : List ℕ) → u ≡ replicate len 0 → u ≡ written 0
-  write_start u q = q ∙ sym (padded_none 0 len)
-
   pub write_more :
       (i : ℕ) (k : Key)
       → i < length order
@@ -85,9 +82,6 @@ module _ (keys : List Key) (order : List ℕ) (len : ℕ) where
       ∙ sym
       (ap (map (entry_at keys)) (ap (λ n. take n order) (add-one i) ∙ take-suc order i 0 h)
       ∙ map-append (entry_at keys) (take i order) (get_or order i 0 ∷ [])))
-
-  pub write_end : (i : ℕ) → length order ≤ i → (u : List ℕ) → u ≡ written i → u ≡ padded 0 len (flat (map (entry_at keys) order))
-  write_end i h u q = q ∙ ap (λ l. padded 0 len (flat (map (entry_at keys) l))) (take_all i order h)
 
 -- ---- numbers sorted by their keys
 

@@ -5,7 +5,7 @@ use mathlib.Core.List.{List, [], ◌∷◌, ◌++◌, map, append_assoc, append-
 use native.Mathlib.Nat.{suc-mul}
 use native.Mathlib.Numerals.{add-one}
 use native.Mathlib.Omega.{arith}
-use lib.ListN.{get_or, length, set, take, drop, replicate, length-append, length-take, length-drop, length-replicate, take-append-drop, drop_of_length-le}
+use lib.ListN.{get_or, length, set, take, drop, replicate, length-append, length-take, length-drop, take-append-drop, drop_of_length-le}
 use lib.Seq.{set_at, take-suc, drop-cons, drop-drop}
 use Rattle.base.specs.Table.{padded, stored, flat}
 
@@ -148,16 +148,6 @@ module _ {A B : Type 0} (f : B → List A) where
       ∙ ap (λ (r : List A). flat (map f (take m all)) ++ drop (m * n) r) e₀
       ∙ ap (λ (r : List A). flat (map f (take m all)) ++ r) (drop_replicate (m * n) len z ∙ ap (λ (j : ℕ). replicate (len - j) z) (sym lp))
 
-  pub padded_length :
-      (n : ℕ) (h : (x : B) → length (f x) ≡ n) (all : List B) (z : A) (len m : ℕ)
-      → m ≤ length all
-      → m * n ≤ len
-      → length (padded z len (flat (map f (take m all)))) ≡ len
-  padded_length n h all z len m b c =
-      let p = flat (map f (take m all)) in
-      let lp : length p ≡ m * n = length_rows n h (take m all) ∙ ap (λ (j : ℕ). j * n) (length-take m all ∙ omega arith) in
-      length-append p (replicate (len - length p) z) ∙ omega (arith, lp, length-replicate (len - length p) z)
-
 module _ {A B : Type 0} (g : B → A) where
   map_snoc : (xs : List B) (x : B) → map g (xs ++ (x ∷ [])) ≡ map g xs ++ (g x ∷ [])
   map_snoc [] x = refl
@@ -188,17 +178,6 @@ module _ {A B : Type 0} (g : B → A) where
       ∙ sym (append_assoc p (v ∷ []) (drop (suc k) t₀))
       ∙ ap (λ (r : List A). r ++ drop (suc k) t₀) (sym rows)
       ∙ ap (λ (j : ℕ). map g (take (k + 1) all) ++ drop j t₀) (sym (add-one k))
-
-  pub mapped_length :
-      (all : List B) (t₀ : List A) {t : List A} (k : ℕ)
-      → t ≡ map g (take k all) ++ drop k t₀
-      → k ≤ length all
-      → k ≤ length t₀
-      → length t ≡ length t₀
-  mapped_length all t₀ k e a b =
-      ap length e
-      ∙ length-append (map g (take k all)) (drop k t₀)
-      ∙ omega (arith, length_mapped (take k all), length-take k all, length-drop k t₀)
 
   pub mapped_some :
       (all : List B) (z : A) (len : ℕ) {t₀ t : List A} (k m : ℕ)

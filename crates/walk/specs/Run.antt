@@ -1,6 +1,6 @@
 -- The walk as the code runs it, over one lent table of 33 rows of 131 words. A row is a layer: the number of the selector that
 -- named it, how many properties it has, and their numbers, 128 at most. Names and verdicts are functions of a number.
-use Rattle.std.specs.Prelude.{ℕ, zero, suc, ◌+◌, ◌*◌, ◌-◌, ◌≤◌, cond, List, ◌∷◌, ◌++◌, ltb, get_or, take, drop, length, set, Result, Ok, Err}
+use Rattle.std.specs.Prelude.{ℕ, zero, suc, ◌+◌, ◌*◌, ◌-◌, cond, List, ◌∷◌, ◌++◌, ltb, get_or, take, drop, length, set, Result, Ok, Err}
 use Rattle.base.specs.Bytes.{Bytes, same}
 use Rattle.table.specs.Value.{word_at, range_at}
 use Rattle.cascade.specs.Clause.{star}
@@ -17,11 +17,6 @@ pub data Run : Type 0 where
 abbrev pub told : Result ℕ ℕ → List ℕ → Run
 told (Err k) t = stop k
 told (Ok n) t = going n t
-
--- a count that an answer hands on stays within the rows
-abbrev pub IsBounded : Result ℕ ℕ → Type 0
-IsBounded (Err k) = Unit {0}
-IsBounded (Ok n) = n ≤ 32
 
 unfoldable pub bind : Run → (ℕ → List ℕ → Run) → Run
 bind (stop k) f = stop k

@@ -1,15 +1,16 @@
 // The walk of one entity through a sheet: its property maps, over lent tables and any bytes.
 #![tactic(auto)]
 
-ghost use Rattle.std.specs.Prelude.{◌≡◌, ◌≤◌, ◌<◌, ◌-◌, length};
+ghost use Rattle.std.specs.Prelude.{◌≡◌, ◌≤◌, ◌<◌, ◌-◌};
 ghost use Rattle.decode.specs.Decode.{name_at, places};
 ghost use Rattle.walk.specs.Maps.{finish, walk_of, maps_of, few, layer_place};
-ghost use Rattle.walk.specs.Run.{told, IsBounded, hit_of, rule_of, rules_of};
+ghost use Rattle.walk.specs.Run.{told, hit_of, rule_of, rules_of};
 ghost use Rattle.walk.specs.Selectors.{layer_in, verdict_in};
 
 use base::refusal::{Refusal, TABLE_BROKEN, TAG_NUMBER};
 use base::{word_at, zero_words};
 use entity::{EntityRange, single_entity};
+use layers::Layers;
 use matching::{Fit, matches};
 use table::Tables;
 use valid::{Counts, is_sound};
@@ -79,17 +80,16 @@ pub fn layer_place(bundle: &[u8], selectors: &[u32], maps: &[u32], n: usize, nam
     if 32 < n {
         return n;
     }
-    layers::find_named(bundle, selectors, maps, n, name)
+    layers::find_named(bundle, selectors, maps, Layers { n }, name)
 }
 
 // What the end of a walk answers: a refusal leaves a table of zeros.
 fn finish_maps(
-    q: Result<usize, usize>,
+    q: Result<Layers, usize>,
     multipolygons: bool,
     place: usize,
     t: &mut [u32; 4323],
 ) -> Result<usize, Refusal>
-    requires { IsBounded q }
     ensures t_after { (result, t.new) ≡ finish multipolygons place (told q t.old) }
     ensures few { few result }
 {
@@ -98,7 +98,7 @@ fn finish_maps(
             zero_words(&mut t[..]);
             Err(Refusal::of_entity(k, multipolygons, place))
         }
-        Ok(m) => Ok(m),
+        Ok(m) => Ok(m.n),
     }
 }
 
@@ -110,12 +110,11 @@ fn walk_rules(
     entity: &[u8],
     e: EntityRange,
     t: &mut [u32; 4323],
-) -> Result<usize, usize>
+) -> Result<Layers, usize>
     requires { total ≤ 16384 }
-    ensures t_after { told result t.new ≡ rules_of (name_at tables.now.bundle.now tables.now.properties.now) (layer_in tables.now.bundle.now tables.now.selectors.now) (verdict_in tables.now.bundle.now tables.now.selectors.now tables.now.tests.now tables.now.numbers.now zoom entity.now e) tables.now.rules.now t.old 0 0 total }
-    ensures IsBounded { IsBounded result }
+    ensures { told result t.new ≡ rules_of (name_at tables.now.bundle.now tables.now.properties.now) (layer_in tables.now.bundle.now tables.now.selectors.now) (verdict_in tables.now.bundle.now tables.now.selectors.now tables.now.tests.now tables.now.numbers.now zoom entity.now e) tables.now.rules.now t.old 0 0 total }
 {
-    let mut m = 0;
+    let mut m = Layers { n: 0 };
     for r in 0..total {
         m = walk_rule(tables, zoom, entity, e, t, m, r)?;
     }
@@ -129,12 +128,11 @@ fn walk_rule(
     entity: &[u8],
     e: EntityRange,
     t: &mut [u32; 4323],
-    n: usize,
+    n: Layers,
     r: usize,
-) -> Result<usize, usize>
-    requires { (n ≤ 32) × (r < 16384) }
-    ensures t_after { told result t.new ≡ rule_of (name_at tables.now.bundle.now tables.now.properties.now) (layer_in tables.now.bundle.now tables.now.selectors.now) (verdict_in tables.now.bundle.now tables.now.selectors.now tables.now.tests.now tables.now.numbers.now zoom entity.now e) tables.now.rules.now t.old n r }
-    ensures IsBounded { IsBounded result }
+) -> Result<Layers, usize>
+    requires { r < 16384 }
+    ensures { told result t.new ≡ rule_of (name_at tables.now.bundle.now tables.now.properties.now) (layer_in tables.now.bundle.now tables.now.selectors.now) (verdict_in tables.now.bundle.now tables.now.selectors.now tables.now.tests.now tables.now.numbers.now zoom entity.now e) tables.now.rules.now t.old n r }
 {
     let at = r * 8;
     let start = word_at(tables.rules, at + 1);
@@ -155,14 +153,12 @@ fn visit(
     entity: &[u8],
     e: EntityRange,
     t: &mut [u32; 4323],
-    n: usize,
+    n: Layers,
     s: u32,
     from: u32,
     to: u32,
-) -> Result<usize, usize>
-    requires { n ≤ 32 }
-    ensures t_after { told result t.new ≡ hit_of (name_at tables.now.bundle.now tables.now.properties.now) (layer_in tables.now.bundle.now tables.now.selectors.now) (verdict_in tables.now.bundle.now tables.now.selectors.now tables.now.tests.now tables.now.numbers.now zoom entity.now e) t.old n s (places from (to - from)) }
-    ensures IsBounded { IsBounded result }
+) -> Result<Layers, usize>
+    ensures { told result t.new ≡ hit_of (name_at tables.now.bundle.now tables.now.properties.now) (layer_in tables.now.bundle.now tables.now.selectors.now) (verdict_in tables.now.bundle.now tables.now.selectors.now tables.now.tests.now tables.now.numbers.now zoom entity.now e) t.old n s (places from (to - from)) }
 {
     match matches(tables, zoom, entity, e, s as usize) {
         Fit::Out => Err(TAG_NUMBER),

@@ -1,11 +1,8 @@
-use mathlib.Core.Path.{refl, ◌∙◌}
+use mathlib.Core.Path.{◌∙◌}
 use Rattle.entity.specs.Layout.{value_of}
 use Rattle.decode.specs.Decode.{test_at}
 use Rattle.matching.proofs.Selectors.{tests_end, tests_step}
 use Rattle.matching.proofs.tests_fit.Goals as goal
-
-pub loop-k-init : goal.loop-k-init
-loop-k-init c = refl
 
 pub returns-in-Out : goal.returns-in-Out
 returns-in-Out c = tests_step

@@ -1,8 +1,6 @@
 use Rattle.walk.proofs.WalkLaws.{zeroed, finish_refused, finish_going}
-use Rattle.walk.specs.Run.{IsBounded}
 use native.Mathlib.Omega.{arith}
 use lib.ListN.{length}
-use mathlib.Core.Path.{subst}
 use Rattle.walk.proofs.finish_maps.Goals as goal
 
 pub returns-in-Err : goal.returns-in-Err
@@ -15,4 +13,4 @@ returns-in-Err c = let a = c.args in record {
 
 pub returns-in-Ok : goal.returns-in-Ok
 returns-in-Ok c = let a = c.args in
-    record { t_after = finish_going a.multipolygons a.place _ a.t.now a.t.now _ c.in-Ok.is; few = subst IsBounded c.in-Ok.is c.requires }
+    record { t_after = rw c.m.view_is (finish_going a.multipolygons a.place _ a.t.now a.t.now _ c.in-Ok.is); few = omega arith }

@@ -17,6 +17,6 @@ returns c = let a = c.args in record {
   maps_after = walk_done a.tables.now.bundle.now a.tables.now.rules.now a.tables.now.selectors.now a.tables.now.tests.now a.tables.now.properties.now
       a.tables.now.numbers.now a.total a.zoom a.entity.now a.e a.multipolygons a.place
       c.if-total-gt16384.false _ (zeroed (length a.maps.now) _ c.zero_words.ensures (omega arith)) _
-      c.walk_rules-q.ensures.t_after _ c.finish_maps.ensures.t_after;
+      c.walk_rules-q.ensures _ c.finish_maps.ensures.t_after;
   few = c.finish_maps.ensures.few;
 }

@@ -1,8 +1,8 @@
 use Prim.Native.Nat.{◌-◌}
 use native.Mathlib.Omega.{arith}
-use mathlib.Core.Path.{refl, sym, ◌∙◌, ap, subst}
+use mathlib.Core.Path.{refl, sym, ◌∙◌, ap}
 use Rattle.decode.specs.Decode.{name_at, places}
-use Rattle.walk.specs.Run.{assign_all, IsBounded}
+use Rattle.walk.specs.Run.{assign_all}
 use Rattle.base.proofs.Options.{handed_on}
 use Rattle.walk.proofs.LayerLaws.{all_end, all_stop, all_next, less_zero, told_stop}
 use Rattle.walk.proofs.layers.assign_all.Goals as goal
@@ -15,17 +15,14 @@ loop-i-init c = let a = c.args in
     (places a.from (a.to - a.from))) (less_zero a.m)
 
 pub returns-in_err-assign_layer : goal.returns-in_err-assign_layer
-returns-in_err-assign_layer c = let loop = c.loop-i in record {
-  t_after = told_stop _ _ _ _ refl (handed_on _ c.from_residual.ensures)
-      ∙ sym
-      (all_stop _ loop.t
-      c.args.m
-      loop.i _
-      c.loop-i-test.true _ _
-      c.assign_layer.ensures.t_after _ c.in_err-assign_layer.was)
-      ∙ loop.invariant;
-  IsBounded = subst IsBounded (sym (handed_on _ c.from_residual.ensures)) tt;
-}
+returns-in_err-assign_layer c = let loop = c.loop-i in told_stop _ _ _ _ refl (handed_on _ c.from_residual.ensures)
+    ∙ sym
+    (all_stop _ loop.t
+    c.args.m
+    loop.i _
+    (omega arith) _ _
+    c.assign_layer.ensures _ c.in_err-assign_layer.was)
+    ∙ loop.invariant
 
 pub loop-i-preserved : goal.loop-i-preserved
 loop-i-preserved c = let loop = c.loop-i in
@@ -33,13 +30,10 @@ loop-i-preserved c = let loop = c.loop-i in
     (all_next _ loop.t
     c.args.m
     loop.i _
-    c.loop-i-test.true _ _
-    c.assign_layer.ensures.t_after _ c.in_ok-assign_layer.was)
+    (omega arith) _ _
+    c.assign_layer.ensures _ c.in_ok-assign_layer.was)
     ∙ loop.invariant
 
 pub returns : goal.returns
-returns c = let loop = c.loop-i in record {
-  t_after = sym (all_end _ loop.t c.args.m loop.i _ c.loop-i-test.false)
-      ∙ loop.invariant;
-  IsBounded = c.requires;
-}
+returns c = let loop = c.loop-i in sym (all_end _ loop.t c.args.m loop.i _ (omega arith))
+    ∙ loop.invariant

@@ -12,16 +12,16 @@ loop-i-init c = let a = c.args in
 pub returns-then-is_layer : goal.returns-then-is_layer
 returns-then-is_layer c = let a = c.args in
     let loop = c.loop-i in
-    sym (seek_found _ a.t.now _ loop.i a.n _ _ c.loop-i-test.true c.word_at.ensures c.is_layer.ensures c.if-is_layer.true)
+    sym (seek_found _ a.t.now _ loop.i a.n _ _ (omega arith) c.word_at.ensures c.is_layer.ensures c.if-is_layer.true)
     ∙ loop.invariant
 
 pub loop-i-preserved : goal.loop-i-preserved
 loop-i-preserved c = let a = c.args in
     let loop = c.loop-i in
-    sym (seek_next _ a.t.now _ loop.i a.n _ _ c.loop-i-test.true c.word_at.ensures c.is_layer.ensures c.if-is_layer.false)
+    sym (seek_next _ a.t.now _ loop.i a.n _ _ (omega arith) c.word_at.ensures c.is_layer.ensures c.if-is_layer.false)
     ∙ loop.invariant
 
 pub returns : goal.returns
 returns c = let a = c.args in
     let loop = c.loop-i in
-    omega arith ∙ sym (seek_end _ a.t.now _ loop.i a.n c.loop-i-test.false) ∙ loop.invariant
+    omega arith ∙ sym (seek_end _ a.t.now _ loop.i a.n (omega arith)) ∙ loop.invariant
