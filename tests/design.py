@@ -23,9 +23,10 @@ def functions():
     for f in FILES:
         s = text(f)
         for m in re.finditer(r'\bfn (\w+)(?:<[^>]*>)?\(', s):
-            i = s.find('\n{', m.start())
-            if i < 0:
+            e = re.search(r'\n *\{\n| \{\n', s[m.start():])
+            if not e:
                 continue
+            i = m.start() + e.start()
             j = s.find('\n}', i)
             k = s.find('\n    }', i)
             if re.search(r'(^|\n)    [^\n]*$', s[:m.start()]) and s[:m.start()].endswith('    '):

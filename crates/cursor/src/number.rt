@@ -101,6 +101,7 @@ fn sign(minus: bool) -> f64
     if minus { -1.0 } else { 1.0 }
 }
 
+#[tactic(auto, unfolding(crate::specs::Number::add_digit))]
 fn add_digit(number: f64, digit: u8) -> f64
     ensures { result ≡ add_digit number digit }
 {

@@ -39,6 +39,7 @@ pub fn is_digits_of(v: &[u8], x: f64) -> bool
 }
 
 // Whether the sign bit is set.
+#[tactic(auto, unfolding(sheet::specs::Digits::has_minus))]
 fn has_minus(x: f64) -> bool
     requires { T (not (is_nan x)) }
     ensures { result ≡ has_minus x }

@@ -53,6 +53,7 @@ pub struct LexerError {
 pub type Reading = Result<(Token, Cursor), LexerError>;
 
 // The error of a reason, at the line and character of a cursor.
+#[tactic(auto, unfolding(crate::specs::Reason::lexer_error))]
 pub fn lexer_error(reason: usize, c: Cursor) -> LexerError
     ensures { result ≡ lexer_error reason c }
 {

@@ -57,6 +57,7 @@ fn read_hex_digits(s: &[u8], c: Cursor) -> Hex
 }
 
 // One digit more behind the last six.
+#[tactic(auto, unfolding(crate::specs::Zoom::hex_added))]
 fn hex_added(value: u32, digit: u8) -> u32
     ensures { result ≡ hex_added value digit }
 {
@@ -64,6 +65,7 @@ fn hex_added(value: u32, digit: u8) -> u32
 }
 
 // Of the digits abcdef: ab, cd, ef.
+#[tactic(auto, unfolding(crate::specs::Zoom::six_digits))]
 fn six_digits(value: u32) -> Color
     ensures { result ≡ six_digits value }
 {
@@ -75,6 +77,7 @@ fn six_digits(value: u32) -> Color
 }
 
 // Of the digits abc: aa, bb, cc.
+#[tactic(auto, unfolding(crate::specs::Zoom::three_digits))]
 fn three_digits(value: u32) -> Color
     ensures { result ≡ three_digits value }
 {
