@@ -8,6 +8,7 @@ use base::{Range, byte_at, part};
 use capi::{mapcss_load, mapcss_style_areas, mapcss_style_entities};
 use std::io;
 use stdio::cases::{ends_at, float_at, is_told, piece_at, replay, short_at, words_are};
+use table::Tables;
 
 // What out holds before.
 const UNSET: u64 = 18446744073709551615;
@@ -78,13 +79,16 @@ fn agrees(bundle: &[u8], settings: &[u8], first: &[u8], second: &[u8], answer: &
     }
     let mut list = [4294967295u32; 16384];
     let lent = short_at(settings, 13).min(16384);
-    let agreed = lists_as(
+    let tables = Tables {
         bundle,
-        &rules,
-        &selectors,
-        &tests,
-        &properties,
-        &numbers,
+        rules: &rules,
+        selectors: &selectors,
+        tests: &tests,
+        properties: &properties,
+        numbers: &numbers,
+    };
+    let agreed = lists_as(
+        &tables,
         &counts,
         settings,
         first,
@@ -96,12 +100,7 @@ fn agrees(bundle: &[u8], settings: &[u8], first: &[u8], second: &[u8], answer: &
 }
 
 fn lists_as(
-    bundle: &[u8],
-    rules: &[u32],
-    selectors: &[u32],
-    tests: &[u32],
-    properties: &[u32],
-    numbers: &[f64],
+    t: &Tables,
     counts: &[u64],
     settings: &[u8],
     first: &[u8],
@@ -110,10 +109,7 @@ fn lists_as(
     answer: &[u8],
 ) -> bool {
     let mut out = [UNSET; 6];
-    let number = list_of(
-        bundle, rules, selectors, tests, properties, numbers, counts, settings, first, second,
-        list, &mut out,
-    );
+    let number = list_of(t, counts, settings, first, second, list, &mut out);
     let n = entry_count(answer, number);
     is_told(answer, number, &out, n as u64)
         && out[5] == UNSET
@@ -123,12 +119,7 @@ fn lists_as(
 
 // The call of the case.
 fn list_of(
-    bundle: &[u8],
-    rules: &[u32],
-    selectors: &[u32],
-    tests: &[u32],
-    properties: &[u32],
-    numbers: &[f64],
+    t: &Tables,
     counts: &[u64],
     settings: &[u8],
     first: &[u8],
@@ -143,12 +134,12 @@ fn list_of(
     let for_labels = byte_at(settings, 11) == 1;
     if are_areas(settings) {
         return mapcss_style_areas(
-            bundle,
-            rules,
-            selectors,
-            tests,
-            properties,
-            numbers,
+            t.bundle,
+            t.rules,
+            t.selectors,
+            t.tests,
+            t.properties,
+            t.numbers,
             counts,
             zoom,
             style_type,
@@ -161,12 +152,12 @@ fn list_of(
         );
     }
     mapcss_style_entities(
-        bundle,
-        rules,
-        selectors,
-        tests,
-        properties,
-        numbers,
+        t.bundle,
+        t.rules,
+        t.selectors,
+        t.tests,
+        t.properties,
+        t.numbers,
         counts,
         zoom,
         style_type,
