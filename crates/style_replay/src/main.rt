@@ -60,8 +60,6 @@ fn agrees(bundle: &[u8], settings: &[u8], entity: &[u8], answer: &[u8]) -> bool 
     if number != 0 {
         return false;
     }
-    let font = [float_at(settings, 3); 1];
-    let given = usize::from(byte_at(settings, 2) == 1);
     let tables = Tables {
         bundle,
         rules: &rules,
@@ -70,27 +68,13 @@ fn agrees(bundle: &[u8], settings: &[u8], entity: &[u8], answer: &[u8]) -> bool 
         properties: &properties,
         numbers: &numbers,
     };
-    styles_as(
-        &tables,
-        &counts,
-        byte_at(settings, 0),
-        byte_at(settings, 1),
-        &font[..given],
-        entity,
-        answer,
-    )
+    styles_as(&tables, &counts, settings, entity, answer)
 }
 
 // What is lent holds something else before.
-fn styles_as(
-    t: &Tables,
-    counts: &[u64],
-    zoom: u8,
-    style_type: u8,
-    font: &[f64],
-    entity: &[u8],
-    answer: &[u8],
-) -> bool {
+fn styles_as(t: &Tables, counts: &[u64], settings: &[u8], entity: &[u8], answer: &[u8]) -> bool {
+    let font = [float_at(settings, 3); 1];
+    let given = usize::from(byte_at(settings, 2) == 1);
     let mut words = [UNSET; 1664];
     let mut floats = [1.5f64; 192];
     let mut layers = [7i64; 32];
@@ -103,9 +87,9 @@ fn styles_as(
         t.properties,
         t.numbers,
         counts,
-        zoom,
-        style_type,
-        font,
+        byte_at(settings, 0),
+        byte_at(settings, 1),
+        &font[..given],
         entity,
         &mut words,
         &mut floats,
