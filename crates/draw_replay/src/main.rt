@@ -8,6 +8,7 @@ use base::{Range, byte_at, part};
 use capi::{mapcss_load, mapcss_style_areas, mapcss_style_entities};
 use std::io;
 use stdio::cases::{ends_at, float_at, is_told, piece_at, replay, short_at, words_are};
+use table::Tables;
 
 // What out holds before.
 const UNSET: u64 = 18446744073709551615;
@@ -73,35 +74,31 @@ fn agrees(bundle: &[u8], settings: &[u8], first: &[u8], second: &[u8], answer: &
         &mut colors,
         &mut counts,
     );
-    if number != 0 {
-        return false;
-    }
     let mut list = [4294967295u32; 16384];
     let lent = short_at(settings, 13).min(16384);
-    let agreed = lists_as(
+    let tables = Tables {
         bundle,
-        &rules,
-        &selectors,
-        &tests,
-        &properties,
-        &numbers,
-        &counts,
-        settings,
-        first,
-        second,
-        &mut list[..lent],
-        answer,
-    );
-    agreed && list[lent..].iter().all(|&w| w == 4294967295)
+        rules: &rules,
+        selectors: &selectors,
+        tests: &tests,
+        properties: &properties,
+        numbers: &numbers,
+    };
+    number == 0
+        && lists_as(
+            &tables,
+            &counts,
+            settings,
+            first,
+            second,
+            &mut list[..lent],
+            answer,
+        )
+        && list[lent..].iter().all(|&w| w == 4294967295)
 }
 
 fn lists_as(
-    bundle: &[u8],
-    rules: &[u32],
-    selectors: &[u32],
-    tests: &[u32],
-    properties: &[u32],
-    numbers: &[f64],
+    t: &Tables,
     counts: &[u64],
     settings: &[u8],
     first: &[u8],
@@ -110,10 +107,11 @@ fn lists_as(
     answer: &[u8],
 ) -> bool {
     let mut out = [UNSET; 6];
-    let number = list_of(
-        bundle, rules, selectors, tests, properties, numbers, counts, settings, first, second,
-        list, &mut out,
-    );
+    let number = if are_areas(settings) {
+        areas_of(t, counts, settings, first, second, list, &mut out)
+    } else {
+        entities_of(t, counts, settings, first, list, &mut out)
+    };
     let n = entry_count(answer, number);
     is_told(answer, number, &out, n as u64)
         && out[5] == UNSET
@@ -121,14 +119,8 @@ fn lists_as(
         && ends_at(answer, number, 6 * n + 3)
 }
 
-// The call of the case.
-fn list_of(
-    bundle: &[u8],
-    rules: &[u32],
-    selectors: &[u32],
-    tests: &[u32],
-    properties: &[u32],
-    numbers: &[f64],
+fn areas_of(
+    t: &Tables,
     counts: &[u64],
     settings: &[u8],
     first: &[u8],
@@ -136,42 +128,49 @@ fn list_of(
     list: &mut [u32],
     out: &mut [u64],
 ) -> u64 {
-    let zoom = byte_at(settings, 0);
-    let style_type = byte_at(settings, 1);
     let font = [float_at(settings, 3); 1];
     let given = usize::from(byte_at(settings, 2) == 1);
-    let for_labels = byte_at(settings, 11) == 1;
-    if are_areas(settings) {
-        return mapcss_style_areas(
-            bundle,
-            rules,
-            selectors,
-            tests,
-            properties,
-            numbers,
-            counts,
-            zoom,
-            style_type,
-            &font[..given],
-            for_labels,
-            first,
-            second,
-            list,
-            out,
-        );
-    }
-    mapcss_style_entities(
-        bundle,
-        rules,
-        selectors,
-        tests,
-        properties,
-        numbers,
+    mapcss_style_areas(
+        t.bundle,
+        t.rules,
+        t.selectors,
+        t.tests,
+        t.properties,
+        t.numbers,
         counts,
-        zoom,
-        style_type,
+        byte_at(settings, 0),
+        byte_at(settings, 1),
         &font[..given],
-        for_labels,
+        byte_at(settings, 11) == 1,
+        first,
+        second,
+        list,
+        out,
+    )
+}
+
+fn entities_of(
+    t: &Tables,
+    counts: &[u64],
+    settings: &[u8],
+    first: &[u8],
+    list: &mut [u32],
+    out: &mut [u64],
+) -> u64 {
+    let font = [float_at(settings, 3); 1];
+    let given = usize::from(byte_at(settings, 2) == 1);
+    mapcss_style_entities(
+        t.bundle,
+        t.rules,
+        t.selectors,
+        t.tests,
+        t.properties,
+        t.numbers,
+        counts,
+        byte_at(settings, 0),
+        byte_at(settings, 1),
+        &font[..given],
+        byte_at(settings, 11) == 1,
         first,
         list,
         out,

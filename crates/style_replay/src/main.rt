@@ -8,6 +8,7 @@ use base::{Range, byte_at, part};
 use capi::{mapcss_load, mapcss_styles};
 use std::io;
 use stdio::cases::{bits_of, ends_at, float_at, is_told, long_at, piece_at, replay, word_at};
+use table::Tables;
 
 // What out holds before.
 const UNSET: u64 = 18446744073709551615;
@@ -59,54 +60,36 @@ fn agrees(bundle: &[u8], settings: &[u8], entity: &[u8], answer: &[u8]) -> bool 
     if number != 0 {
         return false;
     }
-    let font = [float_at(settings, 3); 1];
-    let given = usize::from(byte_at(settings, 2) == 1);
-    styles_as(
+    let tables = Tables {
         bundle,
-        &rules,
-        &selectors,
-        &tests,
-        &properties,
-        &numbers,
-        &counts,
-        byte_at(settings, 0),
-        byte_at(settings, 1),
-        &font[..given],
-        entity,
-        answer,
-    )
+        rules: &rules,
+        selectors: &selectors,
+        tests: &tests,
+        properties: &properties,
+        numbers: &numbers,
+    };
+    styles_as(&tables, &counts, settings, entity, answer)
 }
 
 // What is lent holds something else before.
-fn styles_as(
-    bundle: &[u8],
-    rules: &[u32],
-    selectors: &[u32],
-    tests: &[u32],
-    properties: &[u32],
-    numbers: &[f64],
-    counts: &[u64],
-    zoom: u8,
-    style_type: u8,
-    font: &[f64],
-    entity: &[u8],
-    answer: &[u8],
-) -> bool {
+fn styles_as(t: &Tables, counts: &[u64], settings: &[u8], entity: &[u8], answer: &[u8]) -> bool {
+    let font = [float_at(settings, 3); 1];
+    let given = usize::from(byte_at(settings, 2) == 1);
     let mut words = [UNSET; 1664];
     let mut floats = [1.5f64; 192];
     let mut layers = [7i64; 32];
     let mut out = [UNSET; 6];
     let number = mapcss_styles(
-        bundle,
-        rules,
-        selectors,
-        tests,
-        properties,
-        numbers,
+        t.bundle,
+        t.rules,
+        t.selectors,
+        t.tests,
+        t.properties,
+        t.numbers,
         counts,
-        zoom,
-        style_type,
-        font,
+        byte_at(settings, 0),
+        byte_at(settings, 1),
+        &font[..given],
         entity,
         &mut words,
         &mut floats,

@@ -1,5 +1,4 @@
 use lib.Seq.{length-take-le}
-use Prim.Native.Nat.{◌-◌}
 use borrow.Author.Rules.{rules}
 use Rattle.plate_replay.proofs.behind.Goals as goal
 
