@@ -107,15 +107,7 @@ fn styled(
 ) -> Result<(Range, usize), Refusal>
     ensures { plate result (held rules.new selectors.new tests.new properties.new numbers.new colors.new) maps.new ≡ loaded_plate zoom b bundle.now entity.now (load_of bundle.now room) }
 {
-    match parser::load(
-        bundle,
-        &mut rules[..],
-        &mut selectors[..],
-        &mut tests[..],
-        &mut properties[..],
-        &mut numbers[..],
-        &mut colors[..],
-    ) {
+    match parser::load(bundle, rules, selectors, tests, properties, numbers, colors) {
         Err(e) => {
             zero_words(&mut maps[..]);
             Err(e)

@@ -2,7 +2,6 @@ use native.Mathlib.Omega.{arith}
 use lib.ListN.{length}
 use Rattle.base.specs.Table.{zero_float}
 use Rattle.printing.proofs.PlateLaws.{zeroed, all_zero}
-use borrow.Author.Rules.{rules}
 use Rattle.printing.proofs.blank.Goals as goal
 
 pub returns : goal.returns

@@ -2,7 +2,6 @@ use native.Mathlib.Omega.{arith}
 use Rattle.base.proofs.Options.{handed_on}
 use lib.ListN.{length}
 use Rattle.printing.proofs.PlateLaws.{zeroed, room_is, styled_not, styled_refused, styled_maps}
-use borrow.Author.Rules.{rules}
 use Rattle.printing.proofs.styled.Goals as goal
 
 pub returns-in-Err : goal.returns-in-Err
@@ -20,24 +19,12 @@ returns-in_err-k-in-Ok c = let a =
     styled_refused a.bundle.now a.entity.now a.zoom a.b _
     (room_is (length a.rules.now) (length a.selectors.now) (length a.tests.now)
     (length a.properties.now) (length a.numbers.now) (length a.colors.now)
-    (omega (arith, c.load-arg-1.given))
-    (omega (
-      arith,
-      c.load-arg-2-1.given,
-    ))
-    (omega (
-      arith,
-      c.load-arg-3-1.given,
-    ))
-    (omega (arith, c.load-arg-4-1.given))
-    (omega (
-      arith,
-      c.load-arg-5-1.given,
-    ))
-    (omega (
-      arith,
-      c.load-arg-6-1.given,
-    )))
+    (omega arith)
+    (omega arith)
+    (omega arith)
+    (omega arith)
+    (omega arith)
+    (omega arith))
     _ _ _ _ _ _ _ _ _ _ _ _
     c.load.ensures
     c.in-Ok.is
@@ -51,24 +38,12 @@ returns-in_ok-k-in-Ok c = let a =
     styled_maps a.bundle.now a.entity.now a.zoom a.b _
     (room_is (length a.rules.now) (length a.selectors.now) (length a.tests.now)
     (length a.properties.now) (length a.numbers.now) (length a.colors.now)
-    (omega (arith, c.load-arg-1.given))
-    (omega (
-      arith,
-      c.load-arg-2-1.given,
-    ))
-    (omega (
-      arith,
-      c.load-arg-3-1.given,
-    ))
-    (omega (arith, c.load-arg-4-1.given))
-    (omega (
-      arith,
-      c.load-arg-5-1.given,
-    ))
-    (omega (
-      arith,
-      c.load-arg-6-1.given,
-    )))
+    (omega arith)
+    (omega arith)
+    (omega arith)
+    (omega arith)
+    (omega arith)
+    (omega arith))
     _ _ _ _ _ _ _ _ _ _ _ _
     c.load.ensures
     c.in-Ok.is
