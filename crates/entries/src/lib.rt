@@ -12,13 +12,9 @@ use table::Name;
 
 // Stores an entry behind the first n of its size, unless the table is full.
 fn put_entry<T: Copy>(t: &mut [T], n: usize, entry: &[T]) -> Option<usize>
-    requires { 0 < length entry.now }
     ensures { (result, t.new) ≡ put_of (length entry.now) t.old n entry.now }
 {
-    if 16384 <= n {
-        return None;
-    }
-    if t.len() / entry.len() <= n {
+    if base::capacity(entry.len(), t.len()) <= n {
         return None;
     }
     let at = n * entry.len();

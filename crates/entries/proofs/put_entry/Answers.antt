@@ -1,16 +1,20 @@
 use mathlib.Core.Path.{sym, ap, ◌∙◌}
+use native.Mathlib.Omega.{arith}
 use lib.ListN.{set}
 use Rattle.std.proofs.Common.{◌+◌, ◌*◌, length}
 use Rattle.std.proofs.lemmas.List.{at_drop_all}
 use Rattle.base.specs.Table.{stored}
-use Rattle.entries.proofs.Room.{full_bound, full_length, room, stored_on}
+use Rattle.entries.proofs.Room.{full, room, stored_on, entry_fits}
 use Rattle.entries.proofs.put_entry.Goals as goal
 
-pub returns-then-n-ge16384 : goal.returns-then-n-ge16384
-returns-then-n-ge16384 g c = full_bound (length c.args.entry.now) _ _ _ c.if-n-ge16384.true
+pub returns-then-capacity-n : goal.returns-then-capacity-n
+returns-then-capacity-n g c = full _ _ _ _ (rw c.capacity.ensures at c.if-capacity-n.true)
 
-pub returns-then-t-entry : goal.returns-then-t-entry
-returns-then-t-entry g c = full_length (length c.args.entry.now) _ _ _ c.if-t-entry.true
+pub overflow_mul-at : goal.overflow_mul-at
+overflow_mul-at g c = let f = entry_fits (length c.args.entry.now) (length c.args.t.now) c.args.n (rw c.capacity.ensures at c.if-capacity-n.false) in omega (arith, f)
+
+pub overflow_add-at : goal.overflow_add-at
+overflow_add-at g c = let f = entry_fits (length c.args.entry.now) (length c.args.t.now) c.args.n (rw c.capacity.ensures at c.if-capacity-n.false) in omega (arith, f, c.loop-i-test.true)
 
 pub loop-i-preserved : goal.loop-i-preserved
 loop-i-preserved g c = let l = c.loop-i in let e = c.args.entry.now in
@@ -19,5 +23,5 @@ loop-i-preserved g c = let l = c.loop-i in let e = c.args.entry.now in
 
 pub returns : goal.returns
 returns g c = let l = c.loop-i in let e = c.args.entry.now in let at = c.args.n * length e in
-    room (length e) _ _ _ l.t c.if-n-ge16384.false c.if-t-entry.false
+    room (length e) _ _ _ l.t (rw c.capacity.ensures at c.if-capacity-n.false)
     (sym (at_drop_all (stored l.t (at + l.i)) e l.i c.loop-i-test.false) ∙ l.invariant)
