@@ -1,4 +1,5 @@
 pub mod Below
+pub mod Entries
 pub mod Parity
 pub mod Room
 pub mod Tests

@@ -134,7 +134,7 @@ fn rule_sound(e: &[u32; 8], selectors: usize, properties: usize) -> bool
         && e[7] == 0
 }
 
-#[tactic(auto, unfolding(base::specs::Choice::pick, crate::specs::Valid::selector_sound))]
+#[tactic(auto, unfolding(base::specs::Choice::pick, crate::specs::Valid::selector_sound, crate::specs::Valid::marked_span))]
 fn selector_sound(e: &[u32; 8], tests: usize, bundle: usize) -> bool
     ensures { result ≡ selector_sound e.now tests bundle 0 }
 {
@@ -149,7 +149,7 @@ fn named(e: &[u32; 8], most: usize, bundle: usize) -> bool
     span_in(1, e[0], most) && span_in(e[1], e[2], bundle)
 }
 
-#[tactic(auto, unfolding(base::specs::Choice::pick, crate::specs::Valid::test_sound))]
+#[tactic(auto, unfolding(base::specs::Choice::pick, crate::specs::Valid::test_sound, crate::specs::Valid::marked_span))]
 fn test_sound(e: &[u32; 8], xs: &[f64], numbers: usize, bundle: usize) -> bool
     ensures { result ≡ test_sound e.now xs.now numbers bundle 0 }
 {
