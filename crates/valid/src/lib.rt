@@ -18,6 +18,7 @@ pub struct Counts {
 }
 
 // Whether the tables of a sheet are sound beside a bundle of so many bytes; tables that are not are refused with 22.
+#[tactic(auto, using(crate::proofs::Room::counts_room), unfolding(base::specs::Choice::pick, crate::specs::Valid::tables_sound))]
 pub fn is_sound(
     rules: &[u32],
     selectors: &[u32],
@@ -29,19 +30,17 @@ pub fn is_sound(
 ) -> bool
     ensures { result ≡ tables_sound rules.now selectors.now tests.now properties.now numbers.now n bundle }
 {
-    if !counts_held(
+    counts_held(
         rules.len(),
         selectors.len(),
         tests.len(),
         properties.len(),
         numbers.len(),
         n,
-    ) {
-        return false;
-    }
-    entries_sound(rules, selectors, tests, properties, numbers, n, bundle)
+    ) && entries_sound(rules, selectors, tests, properties, numbers, n, bundle)
 }
 
+#[tactic(auto, unfolding(crate::specs::Valid::entries_held))]
 fn entries_held(count: usize, len: usize) -> bool
     ensures { result ≡ entries_held count len }
 {
@@ -66,7 +65,6 @@ fn counts_held(
         && n.numbers <= base::capacity(1, numbers)
 }
 
-#[tactic(auto, unfolding(base::specs::Choice::pick, crate::specs::Valid::entries_sound))]
 fn entries_sound(
     rules: &[u32],
     selectors: &[u32],
@@ -83,10 +81,19 @@ fn entries_sound(
     let selectors = selectors.as_chunks::<8>().0;
     let tests = tests.as_chunks::<8>().0;
     let properties = properties.as_chunks::<8>().0;
-    each_below(n.rules, |i| rule_sound(&rules[i], n.selectors, n.properties))
-        && each_below(n.selectors, |i| selector_sound(&selectors[i], n.tests, bundle))
-        && each_below(n.tests, |i| test_sound(&tests[i], numbers, n.numbers, bundle))
-        && each_below(n.properties, |i| property_sound(&properties[i], n.numbers, bundle))
+    each_below(
+        n.rules,
+        |i| rule_sound(&rules[i], n.selectors, n.properties),
+    ) && each_below(
+        n.selectors,
+        |i| selector_sound(&selectors[i], n.tests, bundle),
+    ) && each_below(
+        n.tests,
+        |i| test_sound(&tests[i], numbers, n.numbers, bundle),
+    ) && each_below(
+        n.properties,
+        |i| property_sound(&properties[i], n.numbers, bundle),
+    )
 }
 
 // Whether what is asked holds of every number below n.
@@ -153,7 +160,9 @@ fn named(e: &[u32; 8], most: usize, bundle: usize) -> bool
 fn test_sound(e: &[u32; 8], xs: &[f64], numbers: usize, bundle: usize) -> bool
     ensures { result ≡ test_sound e.now xs.now numbers bundle 0 }
 {
-    named(e, 12, bundle) && marked_span(e[3], e[4], e[5], bundle) && test_value(e, xs, numbers, bundle)
+    named(e, 12, bundle)
+        && marked_span(e[3], e[4], e[5], bundle)
+        && test_value(e, xs, numbers, bundle)
 }
 
 // The value of a test by its kind: none, a range of the bundle, or a number.

@@ -1,14 +1,62 @@
-use Rattle.std.proofs.Common.{rules, ◌≡◌, ℕ, Bool, eqb, leb, ◌≤◌, ◌<◌, ◌+◌, ◌*◌, ◌%◌, ◌/◌, length, [], ◌∷◌, true, false, List, sym, ◌∙◌, arith}
-use Rattle.std.specs.Simd.{first_chunks}
-use lib.ListN.{get_or}
-use Rattle.valid.specs.Valid.{rule_sound, selector_sound, test_sound, property_sound, all_below, entries_sound}
+use mathlib.Core.Path.{sym, ◌∙◌}
+use Rattle.std.proofs.Common.{rules}
+use Rattle.base.specs.Choice.{via, if_true, if_false, clash}
+use Rattle.valid.specs.Valid.{entries_sound}
 use Rattle.valid.proofs.Entries.{rule_entry, selector_entry, test_entry, property_entry}
-use Rattle.base.specs.Choice.{pick}
+use Rattle.valid.proofs.entries_sound.Goals.{then-each_below, else-each_below, then-each_below-2, else-each_below-2}
 use Rattle.valid.proofs.entries_sound.Goals as goal
 
 pub returns-then-each_below-3 : goal.returns-then-each_below-3
-unfolding entries_sound pick
+unfolding entries_sound
 returns-then-each_below-3 c =
-    let k = length c.args.rules.now / 8 in
-    let h : c.each_below.result ≡ all_below (rule_sound c.args.rules.now c.args.n.selectors c.args.n.properties) c.args.n.rules = c.each_below.ensures (rule_sound c.args.rules.now c.args.n.selectors c.args.n.properties)
-      (λ i r g q. let e : r ≡ rule_sound (get_or (first_chunks 8 k c.args.rules.now) i []) c.args.n.selectors c.args.n.properties 0 = search rules in e ∙ rule_entry c.args.rules.now k i (let b = c.requires.0 in omega arith) c.args.n.selectors c.args.n.properties) in ?
+    let yes = c.if-each_below-3.true in
+    elim c.if-each_below-2.branch [
+      | then-each_below-2 w ↦ elim c.if-each_below.branch [
+        | then-each_below v ↦
+            if_true _ _ _
+            (via (c.each_below.ensures _ (λ i r g q. search rules ∙ rule_entry _ _ _ c.requires.0 g _ _)) v.if-each_below.true)
+            (if_true _ _ _
+            (via
+            (v.each_below-then-each_below.ensures _ (λ i r g q. search rules ∙ selector_entry _ _ _ c.requires.1 g _ _))
+            (sym v.value-is ∙ w.if-each_below-2.true))
+            (if_true _ _ _
+            (via
+            (w.each_below-then-each_below-2.ensures _ (λ i r g q. search rules ∙ test_entry _ _ _ c.requires.2 g _ _ _))
+            (sym w.value-is ∙ yes))
+            (c.each_below-then-each_below-3.ensures _ (λ i r g q. search rules ∙ property_entry _ _ _ c.requires.3 g _ _))))
+        | else-each_below v ↦ clash w.if-each_below-2.true (v.value-is ∙ v.if-each_below.false)
+      ]
+      | else-each_below-2 w ↦ clash yes (w.value-is ∙ w.if-each_below-2.false)
+    ]
+
+pub returns-else-each_below-3 : goal.returns-else-each_below-3
+unfolding entries_sound
+returns-else-each_below-3 c =
+    let no = c.if-each_below-3.false in
+    elim c.if-each_below.branch [
+      | then-each_below v ↦
+          if_true _ _ _
+          (via (c.each_below.ensures _ (λ i r g q. search rules ∙ rule_entry _ _ _ c.requires.0 g _ _)) v.if-each_below.true)
+          (elim c.if-each_below-2.branch [
+            | then-each_below-2 w ↦
+                if_true _ _ _
+                (via
+                (v.each_below-then-each_below.ensures _ (λ i r g q. search rules ∙ selector_entry _ _ _ c.requires.1 g _ _))
+                (sym v.value-is ∙ w.if-each_below-2.true))
+                (if_false _ _ _
+                (via
+                (w.each_below-then-each_below-2.ensures _ (λ i r g q. search rules ∙ test_entry _ _ _ c.requires.2 g _ _ _))
+                (sym w.value-is ∙ no))
+                no)
+            | else-each_below-2 w ↦
+                if_false _ _ _
+                (via
+                (v.each_below-then-each_below.ensures _ (λ i r g q. search rules ∙ selector_entry _ _ _ c.requires.1 g _ _))
+                (sym v.value-is ∙ w.if-each_below-2.false))
+                no
+          ])
+      | else-each_below v ↦
+          if_false _ _ _
+          (via (c.each_below.ensures _ (λ i r g q. search rules ∙ rule_entry _ _ _ c.requires.0 g _ _)) v.if-each_below.false)
+          no
+    ]
