@@ -1,32 +1,14 @@
 -- A table of words cut into entries: word j of the entry at place i, and what is judged of that entry.
 use Prim.Native.Nat.{ℕ, zero, suc, ◌+◌, ◌*◌, ◌/◌, ◌<◌, ◌≤◌}
 use native.Mathlib.Omega.{arith}
-use mathlib.Core.Path.{◌≡◌, refl, sym, ◌∙◌, ap}
-use mathlib.Core.Bool.{Bool}
+use mathlib.Core.Path.{◌≡◌, refl, ◌∙◌, ap}
 use mathlib.Core.List.{List, []}
 use lib.Ieee.{Float}
 use lib.ListN.{length, get_or, take, drop}
 use Rattle.std.proofs.lemmas.List.{get_or-take, get_or-drop, drop-drop}
 use Rattle.std.specs.Simd.{first_chunks}
-use Rattle.base.specs.Choice.{pick}
 use Rattle.table.specs.Value.{word_at}
-use Rattle.valid.specs.Valid.{
-  span_in,
-  two_zeros,
-  marked_span,
-  rule_sound,
-  selector_sound,
-  named_entry,
-  number_value,
-  test_value,
-  test_sound,
-  one_span,
-  two_spans,
-  color_words,
-  delta_words,
-  value_sound,
-  property_sound,
-}
+use Rattle.valid.specs.Valid.{two_zeros, marked_span, rule_sound, selector_sound, named_entry, number_value, test_value, test_sound, one_span, two_spans, color_words, delta_words, value_sound, property_sound}
 
 -- an entry is the words from its place on
 entry_is : (t : List ℕ) (k i : ℕ) → i < k → get_or (first_chunks 8 k t) i [] ≡ take 8 (drop (i * 8) t)

@@ -30,14 +30,33 @@ pub fn is_sound(
 ) -> bool
     ensures { result ≡ tables_sound rules.now selectors.now tests.now properties.now numbers.now n bundle }
 {
-    counts_held(
+    if !counts_held(
         rules.len(),
         selectors.len(),
         tests.len(),
         properties.len(),
         numbers.len(),
         n,
-    ) && entries_sound(rules, selectors, tests, properties, numbers, n, bundle)
+    ) {
+        return false;
+    }
+    let rules = rules.as_chunks::<8>().0;
+    let selectors = selectors.as_chunks::<8>().0;
+    let tests = tests.as_chunks::<8>().0;
+    let properties = properties.as_chunks::<8>().0;
+    each_below(
+        n.rules,
+        |i| rule_sound(&rules[i], n.selectors, n.properties),
+    ) && each_below(
+        n.selectors,
+        |i| selector_sound(&selectors[i], n.tests, bundle),
+    ) && each_below(
+        n.tests,
+        |i| test_sound(&tests[i], numbers, n.numbers, bundle),
+    ) && each_below(
+        n.properties,
+        |i| property_sound(&properties[i], n.numbers, bundle),
+    )
 }
 
 #[tactic(auto, unfolding(crate::specs::Valid::entries_held))]
@@ -63,37 +82,6 @@ fn counts_held(
         && entries_held(n.tests, tests)
         && entries_held(n.properties, properties)
         && n.numbers <= base::capacity(1, numbers)
-}
-
-fn entries_sound(
-    rules: &[u32],
-    selectors: &[u32],
-    tests: &[u32],
-    properties: &[u32],
-    numbers: &[f64],
-    n: Counts,
-    bundle: usize,
-) -> bool
-    requires { (n.rules * 8 ≤ length rules.now) × (n.selectors * 8 ≤ length selectors.now) × (n.tests * 8 ≤ length tests.now) × (n.properties * 8 ≤ length properties.now) }
-    ensures { result ≡ entries_sound rules.now selectors.now tests.now properties.now numbers.now n bundle }
-{
-    let rules = rules.as_chunks::<8>().0;
-    let selectors = selectors.as_chunks::<8>().0;
-    let tests = tests.as_chunks::<8>().0;
-    let properties = properties.as_chunks::<8>().0;
-    each_below(
-        n.rules,
-        |i| rule_sound(&rules[i], n.selectors, n.properties),
-    ) && each_below(
-        n.selectors,
-        |i| selector_sound(&selectors[i], n.tests, bundle),
-    ) && each_below(
-        n.tests,
-        |i| test_sound(&tests[i], numbers, n.numbers, bundle),
-    ) && each_below(
-        n.properties,
-        |i| property_sound(&properties[i], n.numbers, bundle),
-    )
 }
 
 // Whether what is asked holds of every number below n.
