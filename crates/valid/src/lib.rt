@@ -1,11 +1,10 @@
 // Whether handed tables are sound, every entry below the counts: what refusal 22 judges.
 #![tactic(auto)]
 
-ghost use Rattle.std.specs.Prelude.{◌≡◌, ℕ, Bool, eqb, leb, ◌≤◌, ◌<◌, ◌+◌, ◌*◌, ◌%◌, length, [], ◌∷◌};
+ghost use Rattle.std.specs.Prelude.{◌≡◌, ℕ, Bool, eqb, ◌<◌, [], ◌∷◌};
 ghost use Rattle.table.specs.Value.{word_at};
-ghost use Rattle.valid.specs.Valid.{span_in, two_zeros, marked_span, rule_sound, selector_sound, named_entry, test_sound, test_value, number_value, property_sound, value_sound, one_span, two_spans, color_words, delta_words, all_below, entries_held, counts_held, entries_sound, tables_sound};
+ghost use Rattle.valid.specs.Valid.{span_in, marked_span, rule_sound, selector_sound, named_entry, test_sound, test_value, number_value, property_sound, value_sound, one_span, color_words, all_below, entries_held, counts_held, tables_sound};
 ghost use Rattle.base.specs.Choice.{pick};
-ghost use Rattle.base.specs.Table.{capacity_of};
 
 // How many entries each table holds. No styling reads the table of colours.
 #[derive(Clone, Copy)]
@@ -207,10 +206,10 @@ fn span_limit(kind: u32, numbers: usize, bundle: usize) -> usize
 }
 
 #[tactic(auto, unfolding(base::specs::Choice::pick, crate::specs::Valid::one_span, crate::specs::Valid::two_zeros))]
-fn one_span(e: &[u32; 8], n: usize) -> bool
-    ensures { result ≡ one_span e.now n 0 }
+fn one_span(e: &[u32; 8], limit: usize) -> bool
+    ensures { result ≡ one_span e.now limit 0 }
 {
-    span_in(e[3], e[4], n) && e[5] == 0 && e[6] == 0
+    span_in(e[3], e[4], limit) && e[5] == 0 && e[6] == 0
 }
 
 #[tactic(auto, unfolding(base::specs::Choice::pick, crate::specs::Valid::color_words))]
