@@ -1,9 +1,8 @@
 -- Rows that pass the check of handed tables, word by word.
-use Prim.Native.Nat.{ℕ, ◌+◌, ◌*◌, ◌<◌, ◌≤◌}
-use native.Mathlib.Numerals.{add-one}
+use Prim.Native.Nat.{ℕ, ◌*◌, ◌<◌, ◌≤◌}
 use native.Mathlib.Omega.{arith}
 use mathlib.Core.Path.{◌≡◌, refl}
-use mathlib.Core.Bool.{Bool, true, false}
+use mathlib.Core.Bool.{true, false}
 use mathlib.Core.List.{List, [], ◌∷◌, ◌++◌}
 use lib.Dec.{eqb, leb}
 use lib.Ieee.{Float}
@@ -34,7 +33,6 @@ use Rattle.valid.specs.Valid.{
   delta_words,
   value_sound,
   property_sound,
-  all_below,
 }
 use Rattle.input.specs.Text.{Small}
 use Rattle.sound.specs.Lies.{Span, Lies, Layer}
@@ -68,11 +66,6 @@ row_there pre i a b c d e f g h z p =
       w₆ = word_behind pre w i 6 p;
       w₇ = word_behind pre w i 7 p;
     }
-
--- one entry more
-pub all_more : (p : ℕ → Bool) (n : ℕ) → all_below p n ≡ true → p n ≡ true → all_below p (n + 1) ≡ true
-unfolding all_below pick
-all_more p n h g = rw (add-one, g) h
 
 -- ---- ranges
 

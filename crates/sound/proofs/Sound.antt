@@ -22,7 +22,8 @@ use Rattle.grammar.specs.Entries.{test_entries, tests_entries, numbers_entries, 
 use Rattle.keep.specs.Encode.{Rows, no_rows, add_row, add_rows}
 use Rattle.keep.specs.Lent.{range, type_number, level_in, layer_in, name_shown, unary_kind, word_kind, digits_kind, numeric_kind, test_row, value_shown, word_row, value_row, fresh_numbers}
 use Rattle.input.specs.Text.{range_of}
-use Rattle.sound.proofs.Checked.{row_there, all_more, span_words, rule_row, selector_row, test_row_lem, unary_value, word_value_lem, number_value_lem, property_row, one_value, two_value, color_value_lem, numbers_value_lem, delta_value}
+use Rattle.valid.proofs.Below.{below_next}
+use Rattle.sound.proofs.Checked.{row_there, span_words, rule_row, selector_row, test_row_lem, unary_value, word_value_lem, number_value_lem, property_row, one_value, two_value, color_value_lem, numbers_value_lem, delta_value}
 use Rattle.sound.specs.Lies.{Each, none_left, and_then, Span, Lies, Layer, TestLies, ValueLies, PropertyLies, SelectorLies, RuleLies, ItemLies}
 use Rattle.keep.proofs.Rows.{Even, even_row, rows_append}
 
@@ -73,7 +74,7 @@ module _ (bundle : ℕ) where
           rules =
               λ z s p h₁ h₂ g₁ g₂.
               rw (append_assoc ρ.rules row z)
-              (all_more (rule_sound (ρ.rules ++ (row ++ z)) s p) n.rules (v.rules (row ++ z) s p h₁ h₂ g₁ g₂)
+              (below_next (rule_sound (ρ.rules ++ (row ++ z)) s p) n.rules (v.rules (row ++ z) s p h₁ h₂ g₁ g₂)
               (rule_row (ρ.rules ++ (row ++ z)) n.rules (word n.selector) (word n.selectors) (word n.property) (word n.properties) s p
               (row_there ρ.rules n.rules _ _ _ _ _ _ _ _ z v.even.rules)
               (span_words n.selector n.selectors s a h₁ h₂)
@@ -109,7 +110,7 @@ module _ (bundle : ℕ) where
           selectors =
               λ z m h g.
               rw (append_assoc ρ.selectors row z)
-              (all_more (selector_sound (ρ.selectors ++ (row ++ z)) m bundle) n.selectors (v.selectors (row ++ z) m h g)
+              (below_next (selector_sound (ρ.selectors ++ (row ++ z)) m bundle) n.selectors (v.selectors (row ++ z) m h g)
               (selector_row bundle short (ρ.selectors ++ (row ++ z)) n.selectors (type_number σ.object_type) _ _
               (word n.test) (word n.tests) m (layer_in σ.layer_id)
               (row_there ρ.selectors n.selectors _ _ _ _ _ _ _ _ z v.even.selectors)
@@ -235,7 +236,7 @@ module _ (bundle : ℕ) where
           tests =
               λ z xs m h g.
               rw (append_assoc ρ.tests row z)
-              (all_more (test_sound (ρ.tests ++ (row ++ z)) (ρ.numbers ++ xs) m bundle) n.tests (v.tests (row ++ z) xs m h g)
+              (below_next (test_sound (ρ.tests ++ (row ++ z)) (ρ.numbers ++ xs) m bundle) n.tests (v.tests (row ++ z) xs m h g)
               (new_test x ρ y r v z xs m h g));
           properties = v.properties;
         }
@@ -329,7 +330,7 @@ module _ (bundle : ℕ) where
           properties =
               λ z m h g.
               rw (append_assoc ρ.properties row z)
-              (all_more (property_sound (ρ.properties ++ (row ++ z)) m bundle) n.properties (v.properties (row ++ z) m h g)
+              (below_next (property_sound (ρ.properties ++ (row ++ z)) m bundle) n.properties (v.properties (row ++ z) m h g)
               (new_value (range_of p.name) p.value ρ y.0 y.1 r v z m h g));
         }
 

@@ -1,4 +1,3 @@
 pub mod Below
-pub mod Parity
+pub mod Entries
 pub mod Room
-pub mod Tests

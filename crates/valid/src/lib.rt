@@ -1,11 +1,10 @@
 // Whether handed tables are sound, every entry below the counts: what refusal 22 judges.
 #![tactic(auto)]
 
-ghost use Rattle.std.specs.Prelude.{◌≡◌, ℕ, Bool, eqb, leb, ◌≤◌, ◌<◌, ◌+◌, ◌*◌, ◌%◌, length};
+ghost use Rattle.std.specs.Prelude.{◌≡◌, ℕ, Bool, eqb, ◌<◌, [], ◌∷◌};
 ghost use Rattle.table.specs.Value.{word_at};
-ghost use Rattle.valid.specs.Valid.{span_in, two_zeros, marked_span, rule_sound, selector_sound, named_entry, test_sound, test_value, number_value, property_sound, value_sound, one_span, two_spans, color_words, delta_words, all_below, entries_held, counts_held, entries_sound, tables_sound};
+ghost use Rattle.valid.specs.Valid.{span_in, marked_span, rule_sound, selector_sound, named_entry, test_sound, test_value, number_value, property_sound, value_sound, one_span, color_words, all_below, entries_held, counts_held, tables_sound};
 ghost use Rattle.base.specs.Choice.{pick};
-ghost use Rattle.base.specs.Table.{capacity_of};
 
 // How many entries each table holds. No styling reads the table of colours.
 #[derive(Clone, Copy)]
@@ -18,6 +17,7 @@ pub struct Counts {
 }
 
 // Whether the tables of a sheet are sound beside a bundle of so many bytes; tables that are not are refused with 22.
+#[tactic(auto, using(crate::proofs::Room::counts_room), unfolding(base::specs::Choice::pick, crate::specs::Valid::tables_sound))]
 pub fn is_sound(
     rules: &[u32],
     selectors: &[u32],
@@ -39,15 +39,33 @@ pub fn is_sound(
     ) {
         return false;
     }
-    entries_sound(rules, selectors, tests, properties, numbers, n, bundle)
+    let rules = rules.as_chunks::<8>().0;
+    let selectors = selectors.as_chunks::<8>().0;
+    let tests = tests.as_chunks::<8>().0;
+    let properties = properties.as_chunks::<8>().0;
+    each_below(
+        n.rules,
+        |i| rule_sound(&rules[i], n.selectors, n.properties),
+    ) && each_below(
+        n.selectors,
+        |i| selector_sound(&selectors[i], n.tests, bundle),
+    ) && each_below(
+        n.tests,
+        |i| test_sound(&tests[i], numbers, n.numbers, bundle),
+    ) && each_below(
+        n.properties,
+        |i| property_sound(&properties[i], n.numbers, bundle),
+    )
 }
 
+#[tactic(auto, unfolding(crate::specs::Valid::entries_held))]
 fn entries_held(count: usize, len: usize) -> bool
     ensures { result ≡ entries_held count len }
 {
     count <= base::capacity(8, len)
 }
 
+#[tactic(auto, unfolding(base::specs::Choice::pick, crate::specs::Valid::counts_held))]
 fn counts_held(
     rules: usize,
     selectors: usize,
@@ -58,43 +76,11 @@ fn counts_held(
 ) -> bool
     ensures { result ≡ counts_held rules selectors tests properties numbers n }
 {
-    if !entries_held(n.rules, rules) {
-        return false;
-    }
-    if !entries_held(n.selectors, selectors) {
-        return false;
-    }
-    if !entries_held(n.tests, tests) {
-        return false;
-    }
-    if !entries_held(n.properties, properties) {
-        return false;
-    }
-    n.numbers <= base::capacity(1, numbers)
-}
-
-fn entries_sound(
-    rules: &[u32],
-    selectors: &[u32],
-    tests: &[u32],
-    properties: &[u32],
-    numbers: &[f64],
-    n: Counts,
-    bundle: usize,
-) -> bool
-    requires { (n.rules * 8 ≤ length rules.now) × (n.selectors * 8 ≤ length selectors.now) × (n.tests * 8 ≤ length tests.now) × (n.properties * 8 ≤ length properties.now) }
-    ensures { result ≡ entries_sound rules.now selectors.now tests.now properties.now numbers.now n bundle }
-{
-    if !rules_sound(rules, n.rules, n.selectors, n.properties) {
-        return false;
-    }
-    if !selectors_sound(selectors, n.selectors, n.tests, bundle) {
-        return false;
-    }
-    if !tests_sound(tests, numbers, n.tests, n.numbers, bundle) {
-        return false;
-    }
-    properties_sound(properties, n.properties, n.numbers, bundle)
+    entries_held(n.rules, rules)
+        && entries_held(n.selectors, selectors)
+        && entries_held(n.tests, tests)
+        && entries_held(n.properties, properties)
+        && n.numbers <= base::capacity(1, numbers)
 }
 
 // Whether what is asked holds of every number below n.
@@ -110,302 +96,125 @@ fn each_below<F: Fn(usize) -> bool>(n: usize, holds: F) -> bool
     true
 }
 
-fn rules_sound(t: &[u32], n: usize, selectors: usize, properties: usize) -> bool
-    requires { n * 8 ≤ length t.now }
-    ensures { result ≡ all_below (rule_sound t.now selectors properties) n }
-{
-    each_below(n, |i| rule_sound(t, i, selectors, properties))
-}
-
-fn selectors_sound(t: &[u32], n: usize, tests: usize, bundle: usize) -> bool
-    requires { n * 8 ≤ length t.now }
-    ensures { result ≡ all_below (selector_sound t.now tests bundle) n }
-{
-    each_below(n, |i| selector_sound(t, i, tests, bundle))
-}
-
-fn tests_sound(t: &[u32], xs: &[f64], n: usize, numbers: usize, bundle: usize) -> bool
-    requires { n * 8 ≤ length t.now }
-    ensures { result ≡ all_below (test_sound t.now xs.now numbers bundle) n }
-{
-    each_below(n, |i| test_sound(t, xs, i, numbers, bundle))
-}
-
-fn properties_sound(t: &[u32], n: usize, numbers: usize, bundle: usize) -> bool
-    requires { n * 8 ≤ length t.now }
-    ensures { result ≡ all_below (property_sound t.now numbers bundle) n }
-{
-    each_below(n, |i| property_sound(t, i, numbers, bundle))
-}
-
-// Word j of an entry that the table holds: the counts are judged once, so no word is tested for its place.
-fn held(t: &[u32], i: usize, j: usize) -> usize
-    requires { (j < 8) × (i * 8 + 8 ≤ length t.now) }
-    ensures { result ≡ word_at t.now i j }
-{
-    wide(t[i * 8 + j])
-}
-
-fn wide(w: u32) -> usize
-    ensures { result ≡ w }
-{
-    w as usize
-}
-
 // Whether a range is in order and within so many.
-fn span_in(from: usize, to: usize, n: usize) -> bool
+#[tactic(auto, unfolding(base::specs::Choice::pick, crate::specs::Valid::span_in))]
+fn span_in(from: u32, to: u32, n: usize) -> bool
     ensures { result ≡ span_in from to n }
 {
-    if from <= to {
-        return to <= n;
-    }
-    false
+    from <= to && to as usize <= n
 }
 
-// The range at words j and j + 1 of entry i.
-fn span_at(t: &[u32], i: usize, j: usize, n: usize) -> bool
-    requires { (j < 7) × (i * 8 + 8 ≤ length t.now) }
-    ensures { result ≡ span_in (word_at t.now i j) (word_at t.now i (j + 1)) n }
+// A mark, 0 or 1, and behind it a range if it is 1, else zeros.
+#[tactic(auto, unfolding(base::specs::Choice::pick, crate::specs::Valid::marked_span))]
+fn marked_span(mark: u32, from: u32, to: u32, n: usize) -> bool
+    ensures { result ≡ marked_span (mark ∷ from ∷ to ∷ []) 0 0 n }
 {
-    span_in(held(t, i, j), held(t, i, j + 1), n)
+    match mark {
+        0 => from == 0 && to == 0,
+        1 => span_in(from, to, n),
+        _ => false,
+    }
 }
 
-// A kind from 1 up to the last one known.
-fn kind_at(t: &[u32], i: usize, most: usize) -> bool
-    requires { i * 8 + 8 ≤ length t.now }
-    ensures { result ≡ span_in 1 (word_at t.now i 0) most }
+#[tactic(auto, unfolding(base::specs::Choice::pick, crate::specs::Valid::rule_sound))]
+fn rule_sound(e: &[u32; 8], selectors: usize, properties: usize) -> bool
+    ensures { result ≡ rule_sound e.now selectors properties 0 }
 {
-    span_in(1, held(t, i, 0), most)
+    e[0] == 1
+        && span_in(e[1], e[2], selectors)
+        && span_in(e[3], e[4], properties)
+        && e[5] == 0
+        && e[6] == 0
+        && e[7] == 0
 }
 
-fn zero_at(t: &[u32], i: usize, j: usize) -> bool
-    requires { (j < 8) × (i * 8 + 8 ≤ length t.now) }
-    ensures { result ≡ eqb (word_at t.now i j) 0 }
+#[tactic(auto, unfolding(base::specs::Choice::pick, crate::specs::Valid::selector_sound, crate::specs::Valid::marked_span))]
+fn selector_sound(e: &[u32; 8], tests: usize, bundle: usize) -> bool
+    ensures { result ≡ selector_sound e.now tests bundle 0 }
 {
-    held(t, i, j) == 0
-}
-
-// A mark at word j, 0 or 1, and behind it a range if it is 1, else zeros.
-fn marked_span(t: &[u32], i: usize, j: usize, n: usize) -> bool
-    requires { (j < 6) × (i * 8 + 8 ≤ length t.now) }
-    ensures { result ≡ marked_span t.now i j n }
-{
-    let mark = held(t, i, j);
-    if mark == 1 {
-        return span_at(t, i, j + 1, n);
-    }
-    if mark != 0 {
-        return false;
-    }
-    if !zero_at(t, i, j + 1) {
-        return false;
-    }
-    zero_at(t, i, j + 2)
-}
-
-fn rule_sound(t: &[u32], i: usize, selectors: usize, properties: usize) -> bool
-    requires { i * 8 + 8 ≤ length t.now }
-    ensures { result ≡ rule_sound t.now selectors properties i }
-{
-    if held(t, i, 0) != 1 {
-        return false;
-    }
-    if !span_at(t, i, 1, selectors) {
-        return false;
-    }
-    if !span_at(t, i, 3, properties) {
-        return false;
-    }
-    if !zero_at(t, i, 5) {
-        return false;
-    }
-    if !zero_at(t, i, 6) {
-        return false;
-    }
-    zero_at(t, i, 7)
-}
-
-fn selector_sound(t: &[u32], i: usize, tests: usize, bundle: usize) -> bool
-    requires { i * 8 + 8 ≤ length t.now }
-    ensures { result ≡ selector_sound t.now tests bundle i }
-{
-    if !kind_at(t, i, 6) {
-        return false;
-    }
-    if !span_at(t, i, 3, tests) {
-        return false;
-    }
-    marked_span(t, i, 5, bundle)
-}
-
-fn two_zeros(t: &[u32], i: usize, j: usize) -> bool
-    requires { (j < 7) × (i * 8 + 8 ≤ length t.now) }
-    ensures { result ≡ two_zeros t.now i j }
-{
-    if !zero_at(t, i, j) {
-        return false;
-    }
-    zero_at(t, i, j + 1)
+    span_in(1, e[0], 6) && span_in(e[3], e[4], tests) && marked_span(e[5], e[6], e[7], bundle)
 }
 
 // A kind, and behind it the name of a test or a property.
-fn named(t: &[u32], i: usize, most: usize, bundle: usize) -> bool
-    requires { i * 8 + 8 ≤ length t.now }
-    ensures { result ≡ named_entry t.now most bundle i }
+#[tactic(auto, unfolding(base::specs::Choice::pick, crate::specs::Valid::named_entry))]
+fn named(e: &[u32; 8], most: usize, bundle: usize) -> bool
+    ensures { result ≡ named_entry e.now most bundle 0 }
 {
-    if !kind_at(t, i, most) {
-        return false;
-    }
-    span_at(t, i, 1, bundle)
+    span_in(1, e[0], most) && span_in(e[1], e[2], bundle)
 }
 
-fn test_sound(t: &[u32], xs: &[f64], i: usize, numbers: usize, bundle: usize) -> bool
-    requires { i * 8 + 8 ≤ length t.now }
-    ensures { result ≡ test_sound t.now xs.now numbers bundle i }
+#[tactic(auto, unfolding(base::specs::Choice::pick, crate::specs::Valid::test_sound, crate::specs::Valid::marked_span))]
+fn test_sound(e: &[u32; 8], xs: &[f64], numbers: usize, bundle: usize) -> bool
+    ensures { result ≡ test_sound e.now xs.now numbers bundle 0 }
 {
-    if !named(t, i, 12, bundle) {
-        return false;
-    }
-    if !marked_span(t, i, 3, bundle) {
-        return false;
-    }
-    test_value(t, xs, i, numbers, bundle)
+    named(e, 12, bundle)
+        && marked_span(e[3], e[4], e[5], bundle)
+        && test_value(e, xs, numbers, bundle)
 }
 
 // The value of a test by its kind: none, a range of the bundle, or a number.
-fn test_value(t: &[u32], xs: &[f64], i: usize, numbers: usize, bundle: usize) -> bool
-    requires { i * 8 + 8 ≤ length t.now }
-    ensures { result ≡ test_value t.now xs.now numbers bundle i }
+#[tactic(auto, unfolding(base::specs::Choice::pick, crate::specs::Valid::test_value, crate::specs::Valid::two_zeros))]
+fn test_value(e: &[u32; 8], xs: &[f64], numbers: usize, bundle: usize) -> bool
+    ensures { result ≡ test_value e.now xs.now numbers bundle 0 }
 {
-    let kind = held(t, i, 0);
-    if kind <= 4 {
-        return two_zeros(t, i, 6);
+    match e[0] {
+        0..=4 => e[6] == 0 && e[7] == 0,
+        5 | 6 => span_in(e[6], e[7], bundle),
+        _ => number_value(e, xs, numbers),
     }
-    if kind <= 6 {
-        return span_at(t, i, 6, bundle);
-    }
-    number_value(t, xs, i, kind, numbers)
 }
 
 // The place of a number; a whole one for the kinds 7 and 8.
-fn number_value(t: &[u32], xs: &[f64], i: usize, kind: usize, numbers: usize) -> bool
-    requires { i * 8 + 8 ≤ length t.now }
-    ensures { result ≡ number_value t.now xs.now kind numbers i }
+#[tactic(auto, unfolding(base::specs::Choice::pick, crate::specs::Valid::number_value))]
+fn number_value(e: &[u32; 8], xs: &[f64], numbers: usize) -> bool
+    ensures { result ≡ number_value e.now xs.now (word_at e.now 0 0) numbers 0 }
 {
-    let place = held(t, i, 6);
-    if numbers <= place {
-        return false;
-    }
-    if !zero_at(t, i, 7) {
-        return false;
-    }
-    if kind <= 8 {
-        return digits::is_whole(base::float_at(xs, place));
-    }
-    true
+    let place = e[6] as usize;
+    place < numbers && e[7] == 0 && (8 < e[0] || digits::is_whole(base::float_at(xs, place)))
 }
 
-fn property_sound(t: &[u32], i: usize, numbers: usize, bundle: usize) -> bool
-    requires { i * 8 + 8 ≤ length t.now }
-    ensures { result ≡ property_sound t.now numbers bundle i }
+#[tactic(auto, unfolding(base::specs::Choice::pick, crate::specs::Valid::property_sound))]
+fn property_sound(e: &[u32; 8], numbers: usize, bundle: usize) -> bool
+    ensures { result ≡ property_sound e.now numbers bundle 0 }
 {
-    if !named(t, i, 6, bundle) {
-        return false;
-    }
-    if !zero_at(t, i, 7) {
-        return false;
-    }
-    value_sound(t, i, numbers, bundle)
+    named(e, 6, bundle) && e[7] == 0 && value_sound(e, numbers, bundle)
 }
 
-// The value of a property by its kind.
-fn value_sound(t: &[u32], i: usize, numbers: usize, bundle: usize) -> bool
-    requires { i * 8 + 8 ≤ length t.now }
-    ensures { result ≡ value_sound t.now numbers bundle i }
+// The value of a property by its kind. The odd kinds are all one range, which is judged with no jump by the kind.
+#[tactic(auto, unfolding(base::specs::Choice::pick, crate::specs::Valid::value_sound, crate::specs::Valid::two_spans, crate::specs::Valid::delta_words, crate::specs::Valid::two_zeros))]
+fn value_sound(e: &[u32; 8], numbers: usize, bundle: usize) -> bool
+    ensures { result ≡ value_sound e.now numbers bundle 0 }
 {
-    let kind = held(t, i, 0);
+    let kind = e[0];
     if kind % 2 == 1 {
-        return one_span(t, i, span_limit(kind, numbers, bundle));
+        return one_span(e, span_limit(kind, numbers, bundle));
     }
-    even_value(t, i, kind, numbers, bundle)
+    match kind {
+        2 => span_in(e[3], e[4], bundle) && span_in(e[5], e[6], bundle),
+        4 => color_words(e),
+        6 => (e[3] as usize) < numbers && e[4] == 0 && e[5] == 0 && e[6] == 0,
+        _ => one_span(e, bundle),
+    }
 }
 
 // What the range of a value stays within: numbers of their table, or bytes of the bundle.
-fn span_limit(kind: usize, numbers: usize, bundle: usize) -> usize
+#[tactic(auto, unfolding(base::specs::Choice::pick))]
+fn span_limit(kind: u32, numbers: usize, bundle: usize) -> usize
     ensures { result ≡ pick (eqb kind 5) numbers bundle }
 {
     if kind == 5 { numbers } else { bundle }
 }
 
-// The value of a property whose kind, its first word, is even: the others are all one range, which is judged with no jump by the kind.
-fn even_value(t: &[u32], i: usize, kind: usize, numbers: usize, bundle: usize) -> bool
-    requires { (kind ≡ word_at t.now i 0) × (kind % 2 ≡ 0) × (i * 8 + 8 ≤ length t.now) }
-    ensures { result ≡ value_sound t.now numbers bundle i }
+#[tactic(auto, unfolding(base::specs::Choice::pick, crate::specs::Valid::one_span, crate::specs::Valid::two_zeros))]
+fn one_span(e: &[u32; 8], limit: usize) -> bool
+    ensures { result ≡ one_span e.now limit 0 }
 {
-    if kind == 2 {
-        return two_spans(t, i, bundle);
-    }
-    if kind == 4 {
-        return color_words(t, i);
-    }
-    if kind == 6 {
-        return delta_words(t, i, numbers);
-    }
-    one_span(t, i, bundle)
+    span_in(e[3], e[4], limit) && e[5] == 0 && e[6] == 0
 }
 
-fn one_span(t: &[u32], i: usize, n: usize) -> bool
-    requires { i * 8 + 8 ≤ length t.now }
-    ensures { result ≡ one_span t.now n i }
+#[tactic(auto, unfolding(base::specs::Choice::pick, crate::specs::Valid::color_words))]
+fn color_words(e: &[u32; 8]) -> bool
+    ensures { result ≡ color_words e.now 0 }
 {
-    if !span_at(t, i, 3, n) {
-        return false;
-    }
-    two_zeros(t, i, 5)
-}
-
-fn two_spans(t: &[u32], i: usize, n: usize) -> bool
-    requires { i * 8 + 8 ≤ length t.now }
-    ensures { result ≡ two_spans t.now n i }
-{
-    if !span_at(t, i, 3, n) {
-        return false;
-    }
-    span_at(t, i, 5, n)
-}
-
-fn byte_word(t: &[u32], i: usize, j: usize) -> bool
-    requires { (j < 8) × (i * 8 + 8 ≤ length t.now) }
-    ensures { result ≡ leb (word_at t.now i j) 255 }
-{
-    held(t, i, j) <= 255
-}
-
-fn color_words(t: &[u32], i: usize) -> bool
-    requires { i * 8 + 8 ≤ length t.now }
-    ensures { result ≡ color_words t.now i }
-{
-    if !byte_word(t, i, 3) {
-        return false;
-    }
-    if !byte_word(t, i, 4) {
-        return false;
-    }
-    if !byte_word(t, i, 5) {
-        return false;
-    }
-    zero_at(t, i, 6)
-}
-
-fn delta_words(t: &[u32], i: usize, numbers: usize) -> bool
-    requires { i * 8 + 8 ≤ length t.now }
-    ensures { result ≡ delta_words t.now numbers i }
-{
-    if numbers <= held(t, i, 3) {
-        return false;
-    }
-    if !zero_at(t, i, 4) {
-        return false;
-    }
-    two_zeros(t, i, 5)
+    e[3] <= 255 && e[4] <= 255 && e[5] <= 255 && e[6] == 0
 }

@@ -1,0 +1,45 @@
+-- A table of words cut into entries: word j of the entry at place i, and what is judged of that entry.
+use Prim.Native.Nat.{ℕ, zero, suc, ◌+◌, ◌*◌, ◌/◌, ◌<◌, ◌≤◌}
+use native.Mathlib.Omega.{arith}
+use mathlib.Core.Path.{◌≡◌, refl, ◌∙◌, ap}
+use mathlib.Core.List.{List, []}
+use lib.Ieee.{Float}
+use lib.ListN.{length, get_or, take, drop}
+use Rattle.std.proofs.lemmas.List.{get_or-take, get_or-drop, drop-drop}
+use Rattle.std.specs.Simd.{first_chunks}
+use Rattle.table.specs.Value.{word_at}
+use Rattle.valid.specs.Valid.{two_zeros, marked_span, rule_sound, selector_sound, named_entry, number_value, test_value, test_sound, one_span, two_spans, color_words, delta_words, value_sound, property_sound}
+
+-- an entry is the words from its place on
+entry_is : (t : List ℕ) (k i : ℕ) → i < k → get_or (first_chunks 8 k t) i [] ≡ take 8 (drop (i * 8) t)
+entry_is t zero i h = absurd (omega arith)
+entry_is t (suc k) zero h = refl
+entry_is t (suc k) (suc i) h =
+    entry_is (drop 8 t) k i (omega arith) ∙ ap (take 8) (drop-drop (i * 8) 8 t ∙ ap (λ (n : ℕ). drop n t) (let e : 8 + i * 8 ≡ suc i * 8 = omega arith in e))
+
+module _ (t : List ℕ) (n i : ℕ) (room : n * 8 ≤ length t) (below : i < n) where
+  abbrev entry : List ℕ
+  entry = get_or (first_chunks 8 (length t / 8) t) i []
+
+  at : (j : ℕ) → j < 8 → word_at entry 0 j ≡ word_at t i j
+  at j g =
+      ap (λ (x : ℕ). get_or entry x 0) (let e : 0 * 8 + j ≡ j = omega arith in e)
+      ∙ ap (λ (e : List ℕ). get_or e j 0) (entry_is t (length t / 8) i (omega arith))
+      ∙ get_or-take 8 (drop (i * 8) t) j 0 g
+      ∙ get_or-drop (i * 8) t j 0
+
+  pub rule_entry : (s p : ℕ) → rule_sound entry s p 0 ≡ rule_sound t s p i
+  unfolding rule_sound
+  rule_entry s p = simp (at 0 (omega arith), at 1 (omega arith), at 2 (omega arith), at 3 (omega arith), at 4 (omega arith), at 5 (omega arith), at 6 (omega arith), at 7 (omega arith)) refl
+
+  pub selector_entry : (s b : ℕ) → selector_sound entry s b 0 ≡ selector_sound t s b i
+  unfolding selector_sound marked_span
+  selector_entry s b = simp (at 0 (omega arith), at 3 (omega arith), at 4 (omega arith), at 5 (omega arith), at 6 (omega arith), at 7 (omega arith)) refl
+
+  pub test_entry : (xs : List Float) (m b : ℕ) → test_sound entry xs m b 0 ≡ test_sound t xs m b i
+  unfolding test_sound named_entry marked_span test_value two_zeros number_value
+  test_entry xs m b = simp (at 0 (omega arith), at 1 (omega arith), at 2 (omega arith), at 3 (omega arith), at 4 (omega arith), at 5 (omega arith), at 6 (omega arith), at 7 (omega arith)) refl
+
+  pub property_entry : (m b : ℕ) → property_sound entry m b 0 ≡ property_sound t m b i
+  unfolding property_sound named_entry value_sound one_span two_spans color_words delta_words two_zeros
+  property_entry m b = simp (at 0 (omega arith), at 1 (omega arith), at 2 (omega arith), at 3 (omega arith), at 4 (omega arith), at 5 (omega arith), at 6 (omega arith), at 7 (omega arith)) refl
