@@ -37,7 +37,7 @@ def functions():
 def enums():
     for f in FILES:
         for m in re.finditer(r'enum (\w+) \{(.*?)\n\s*\}', text(f), re.S):
-            yield f, m.group(1), re.findall(r'^\s*(\w+)(?:\(([^\n]*)\))?,', m.group(2), re.M)
+            yield f, m.group(1), re.findall(r'^\s*(\w+)(?:\(([^\n]*)\)| = \d+)?,', m.group(2), re.M)
 
 
 def point1():

@@ -10,6 +10,10 @@ ghost use Rattle.entries.specs.Words.{test_words};
 ghost use Rattle.tests.specs.Kind.{kind_number};
 ghost use Rattle.tests.specs.Answers.{TestRead, TestsRead, TestKept, NumberTestKept, WordRead, DigitsRead, OperandRead, NumericRead};
 
+use TestKind::{
+    Exists, False, Greater, GreaterOrEqual, Less, LessOrEqual, NotExists, NumberEqual,
+    NumberNotEqual, TextEqual, TextNotEqual, True,
+};
 use base::Range;
 use base::refusal::{NOT_WHOLE, NUMBERS, PARSE, Refusal, TABLE_FULL, TESTS, UNEXPECTED_TOKEN};
 use cursor::Cursor;
@@ -176,10 +180,10 @@ fn read_question(
 {
     let (t, o, d) = read_mandatory_token(bundle, source, c)?;
     match t {
-        Token::RightBracket => store_test(source, d, n, TestKind::True, key, 0, 0, tests),
+        Token::RightBracket => store_test(source, d, n, True, key, 0, 0, tests),
         Token::Bang => {
             let f = expect_right_bracket(bundle, source, d)?;
-            store_test(source, f, n, TestKind::False, key, 0, 0, tests)
+            store_test(source, f, n, False, key, 0, 0, tests)
         }
         _ => Err(refuse(PARSE, UNEXPECTED_TOKEN, o)),
     }
@@ -204,8 +208,8 @@ fn plain_test(
             bundle,
             source,
             key,
-            TestKind::TextEqual,
-            TestKind::NumberEqual,
+            TextEqual,
+            NumberEqual,
             c,
             n,
             tests,
@@ -215,36 +219,27 @@ fn plain_test(
             bundle,
             source,
             key,
-            TestKind::TextNotEqual,
-            TestKind::NumberNotEqual,
+            TextNotEqual,
+            NumberNotEqual,
             c,
             n,
             tests,
             numbers,
         ),
-        Token::Less => read_number(bundle, source, key, TestKind::Less, c, n, tests, numbers),
-        Token::LessOrEqual => read_number(
-            bundle,
-            source,
-            key,
-            TestKind::LessOrEqual,
-            c,
-            n,
-            tests,
-            numbers,
-        ),
-        Token::Greater => read_number(bundle, source, key, TestKind::Greater, c, n, tests, numbers),
+        Token::Less => read_number(bundle, source, key, Less, c, n, tests, numbers),
+        Token::LessOrEqual => read_number(bundle, source, key, LessOrEqual, c, n, tests, numbers),
+        Token::Greater => read_number(bundle, source, key, Greater, c, n, tests, numbers),
         Token::GreaterOrEqual => read_number(
             bundle,
             source,
             key,
-            TestKind::GreaterOrEqual,
+            GreaterOrEqual,
             c,
             n,
             tests,
             numbers,
         ),
-        Token::RightBracket => store_test(source, c, n, TestKind::Exists, key, 0, 0, tests),
+        Token::RightBracket => store_test(source, c, n, Exists, key, 0, 0, tests),
         Token::QuestionMark => read_question(bundle, source, key, c, n, tests),
         _ => Err(refuse(PARSE, UNEXPECTED_TOKEN, o)),
     }
@@ -263,7 +258,7 @@ fn read_bang_question(
 {
     let (t, o, d) = read_mandatory_token(bundle, source, c)?;
     match t {
-        Token::RightBracket => store_test(source, d, n, TestKind::False, key, 0, 0, tests),
+        Token::RightBracket => store_test(source, d, n, False, key, 0, 0, tests),
         _ => Err(refuse(PARSE, UNEXPECTED_TOKEN, o)),
     }
 }
@@ -282,7 +277,7 @@ fn bang_test(
     ensures { TestRead bundle.now source c n tests.old tests.new (λ τ. bang_test (reading bundle.now) (name_of bundle.now key) τ (token_of bundle.now t) o (spot source c)) result }
 {
     match t {
-        Token::RightBracket => store_test(source, c, n, TestKind::NotExists, key, 0, 0, tests),
+        Token::RightBracket => store_test(source, c, n, NotExists, key, 0, 0, tests),
         Token::QuestionMark => read_bang_question(bundle, source, key, c, n, tests),
         _ => Err(refuse(PARSE, UNEXPECTED_TOKEN, o)),
     }
