@@ -1,5 +1,5 @@
 -- The words of an answer: five, of a load six.
-use Rattle.std.specs.Prelude.{ℕ, List, [], ◌∷◌}
+use Rattle.std.specs.Prelude.{ℕ, [], ◌∷◌}
 use Rattle.base.specs.declared.refusal.Refusal.{Refusal}
 use Rattle.answer_words.specs.declared.Answer.{Answer}
 

@@ -1,7 +1,7 @@
 -- The table's rule: each name of the table has its colour, and no other name has one.
 use mathlib.Core.Path.{◌≡◌, refl}
 use mathlib.Core.List.{List, [], ◌∷◌, Memᴰ}
-use Rattle.base.specs.Bytes.{Bytes, ascii, same}
+use Rattle.base.specs.Bytes.{Bytes, same}
 use Rattle.base.specs.Choice.{pick}
 use Rattle.base.proofs.Compare.{same_false}
 use Rattle.color.specs.Named.{Named, named_colors, first_named, color_named}

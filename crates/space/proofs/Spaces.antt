@@ -1,13 +1,13 @@
 -- The list of white space is the runs that the code tests.
 use Prim.Native.Nat.{ℕ, zero, suc, ◌+◌, ◌-◌, ◌<◌, ◌≤◌}
 use native.Mathlib.Omega.{arith}
-use mathlib.Core.Path.{◌≡◌, refl, sym, ◌∙◌, ap}
-use mathlib.Core.Bool.{Bool, true, false, ◌||◌}
+use mathlib.Core.Path.{◌≡◌, refl, sym, ◌∙◌}
+use mathlib.Core.Bool.{true, false, ◌||◌}
 use mathlib.Core.List.{List, [], ◌∷◌, ◌++◌}
 use lib.Dec.{eqb, ltb}
-use borrow.Author.Tests.{lt-ltb, le-ltb, eq-eqb, ne_eqb, ltb-true, ltb-false, eqb-true, eqb-false}
+use borrow.Author.Tests.{ne_eqb, ltb-true, ltb-false, eqb-false}
 use Rattle.base.specs.Choice.{pick, by-test}
-use Rattle.space.specs.Space.{white_space, among, is_white_space, Run, run, rising, all_runs}
+use Rattle.space.specs.Space.{among, is_white_space, Run, rising, all_runs}
 
 -- n numbers from k on
 up_from : ℕ → ℕ → List ℕ

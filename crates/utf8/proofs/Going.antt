@@ -1,15 +1,14 @@
 -- Going through a text, character by character.
-use Prim.Native.Nat.{ℕ, zero, suc, ◌+◌, ◌-◌, ◌^◌, ◌<◌, ◌≤◌}
+use Prim.Native.Nat.{ℕ, ◌+◌, ◌-◌, ◌^◌, ◌<◌, ◌≤◌}
 use native.Mathlib.Omega.{arith}
-use mathlib.Core.Path.{◌≡◌, refl, sym, ◌∙◌, ap}
-use mathlib.Core.Bool.{Bool, true, false}
+use mathlib.Core.Path.{◌≡◌, refl, sym, ◌∙◌}
+use mathlib.Core.Bool.{true, false}
 use mir.Syntax.{w64}
 use mir.Val.{Fits}
 use lib.ListN.{length}
 use Rattle.base.specs.Bytes.{Bytes}
-use Rattle.base.specs.Turns.{Turn, more, done}
 use Rattle.base.proofs.Loops.{Going, going_start, going_more, going_done}
-use Rattle.utf8.specs.Elim.{on-Char, Char-Bad, Char-End, Char-Code}
+use Rattle.utf8.specs.Elim.{Char-Bad, Char-End, Char-Code}
 use Rattle.utf8.specs.Utf8.{char_at, utf8_turn, is_utf8}
 use Rattle.utf8.specs.declared.Char.{Char}
 use Rattle.utf8.specs.declared.Char.TheVariants.{Bad, End, Code}

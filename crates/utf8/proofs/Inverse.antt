@@ -1,20 +1,19 @@
 -- Decoding and encoding are inverse: every scalar value is read back from its bytes, and what is read is encoded by just those bytes.
-use Prim.Native.Nat.{ℕ, zero, suc, ◌+◌, ◌-◌, ◌*◌, ◌/◌, ◌%◌, ◌<◌, ◌≤◌}
+use Prim.Native.Nat.{ℕ, ◌+◌, ◌-◌, ◌*◌, ◌/◌, ◌%◌, ◌<◌, ◌≤◌}
 use native.Mathlib.Omega.{arith}
-use mathlib.Core.Path.{◌≡◌, refl, sym, ◌∙◌, ap, subst}
-use mathlib.Core.Bool.{Bool, true, false, ◌&&◌, ◌||◌}
+use mathlib.Core.Path.{◌≡◌, refl, sym, ◌∙◌, ap}
+use mathlib.Core.Bool.{true, ◌&&◌}
 use mathlib.Core.Logic.{◌⊎◌, inl, inr}
 use mathlib.Core.List.{List, [], ◌∷◌, ◌++◌, Memᴰ}
 use lib.Dec.{leb, ltb}
-use lib.ListN.{length, get_or, take, drop}
+use lib.ListN.{length, take, drop}
 use borrow.Author.Tests.{lt-ltb, le-ltb, le-leb, lt-leb, ltb-true, ltb-false, leb-true}
 use Rattle.base.specs.Bytes.{Bytes}
-use Rattle.base.specs.Choice.{pick, by-test, clash, and_left, and_right}
+use Rattle.base.specs.Choice.{pick, by-test, and_left, and_right}
 use Rattle.scalar.specs.Scalar.{is_scalar, encode_of}
 use Rattle.utf8.specs.Utf8.{Span, span, tail, fits, gathered, by_row, well_formed, char_of}
-use Rattle.utf8.specs.declared.Char.{Char}
-use Rattle.utf8.specs.declared.Char.TheVariants.{Bad, End, Code}
-use Rattle.utf8.proofs.Rows.{OfRow, char_row, Fitting, fitting}
+use Rattle.utf8.specs.declared.Char.TheVariants.{Code}
+use Rattle.utf8.proofs.Rows.{char_row, fitting}
 
 -- the encodings of each width
 module _ (k : ℕ) where

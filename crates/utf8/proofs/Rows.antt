@@ -1,16 +1,16 @@
 -- The rows of the table of well-formed sequences, as the code goes through them, and the character that a row gives.
-use Prim.Native.Nat.{ℕ, zero, suc, ◌+◌, ◌-◌, ◌*◌, ◌%◌, ◌<◌, ◌≤◌}
+use Prim.Native.Nat.{ℕ, suc, ◌+◌, ◌<◌, ◌≤◌}
 use native.Mathlib.Omega.{arith}
-use mathlib.Core.Path.{◌≡◌, refl, sym, ◌∙◌, ap, subst}
+use mathlib.Core.Path.{◌≡◌, refl, sym, ◌∙◌, ap}
 use mathlib.Core.Bool.{Bool, true, false, ◌&&◌}
 use mathlib.Core.List.{List, [], ◌∷◌, Memᴰ}
-use lib.Dec.{leb, ltb, leb-zero}
+use lib.Dec.{leb, leb-zero}
 use lib.ListN.{length, get_or, drop, length-drop, drop_of_length-le}
 use lib.Seq.{drop-cons, get_or-drop}
 use borrow.Author.Tests.{le-leb, lt-leb, leb-true}
 use Rattle.base.specs.Bytes.{Bytes}
 use Rattle.base.specs.Choice.{pick, by-test, clash, and_left, and_right}
-use Rattle.utf8.specs.Utf8.{Span, span, tail, fits, gathered, by_row, well_formed, char_of, char_at, decode_of}
+use Rattle.utf8.specs.Utf8.{Span, span, fits, gathered, by_row, well_formed, char_of, char_at, decode_of}
 use Rattle.utf8.specs.declared.Char.{Char}
 use Rattle.utf8.specs.declared.Char.TheVariants.{Bad, End, Code}
 

@@ -1,20 +1,20 @@
 -- A slice is UTF-8 exactly if it spells scalar values.
-use Prim.Native.Nat.{ℕ, zero, suc, ◌+◌, ◌-◌, ◌<◌, ◌≤◌}
+use Prim.Native.Nat.{ℕ, zero, suc, ◌+◌, ◌<◌, ◌≤◌}
 use native.Mathlib.Omega.{arith}
-use mathlib.Core.Path.{◌≡◌, refl, sym, ◌∙◌, ap, ap₂, subst}
-use mathlib.Core.Bool.{Bool, true, false}
+use mathlib.Core.Path.{◌≡◌, refl, sym, ◌∙◌, ap, ap₂}
+use mathlib.Core.Bool.{true, false}
 use mathlib.Core.List.{List, [], ◌∷◌, ◌++◌}
-use lib.ListN.{length, drop, take, take-append-drop, length-append}
-use lib.Seq.{drop-append_seam, drop-drop, drop-length}
+use lib.ListN.{length, drop, take-append-drop, length-append}
+use lib.Seq.{drop-append_seam, drop-drop}
 use Rattle.base.specs.Bytes.{Bytes}
 use Rattle.base.specs.Choice.{pick, by-test, clash}
-use Rattle.base.specs.Turns.{Turn, more, done, turns}
+use Rattle.base.specs.Turns.{turns}
 use Rattle.scalar.specs.Scalar.{is_scalar, encode_of}
 use Rattle.utf8.specs.Elim.{on-Char}
 use Rattle.utf8.specs.Utf8.{Span, fits, gathered, by_row, well_formed, char_of, char_at, utf8_turn, is_utf8, spelled, AllScalar, none, next}
 use Rattle.utf8.specs.declared.Char.{Char}
 use Rattle.utf8.specs.declared.Char.TheVariants.{Bad, End, Code}
-use Rattle.utf8.proofs.Inverse.{Encoded, decode_encode, encode_decode}
+use Rattle.utf8.proofs.Inverse.{decode_encode, encode_decode}
 use Rattle.utf8.proofs.Rows.{char_within}
 
 by_char : {A : Type 0} (x : Char) → (x ≡ Bad → A) → (x ≡ End → A) → ((k w : ℕ) → x ≡ Code k w → A) → A

@@ -1,4 +1,3 @@
-use Prim.Native.Nat.{◌-◌}
 use Rattle.utf8.proofs.Going.{at_start, at_bad, at_end, at_next, char_fits, char_less}
 use Rattle.utf8.proofs.is_utf8.Goals as goal
 
