@@ -1,17 +1,14 @@
 -- Names of texts, as the code goes through them.
-use Prim.Native.Nat.{ℕ, zero, suc, ◌+◌, ◌-◌, ◌<◌, ◌≤◌}
+use Prim.Native.Nat.{ℕ, suc, ◌+◌, ◌-◌, ◌<◌, ◌≤◌}
 use native.Mathlib.Omega.{arith}
-use mathlib.Core.Path.{◌≡◌, refl, sym, ◌∙◌, ap}
-use mathlib.Core.Bool.{Bool, true, false, not, ◌||◌}
-use mathlib.Core.List.{List, [], ◌∷◌, map}
-use lib.Dec.{eqb, ltb}
-use lib.ListN.{length}
-use borrow.Author.Tests.{eq-eqb, ne_eqb, lt-ltb, le-ltb}
+use mathlib.Core.Path.{◌≡◌, sym, ◌∙◌, ap}
+use mathlib.Core.Bool.{Bool, true, false}
+use mathlib.Core.List.{[], ◌∷◌, map}
 use Rattle.base.specs.Bytes.{Bytes, same, within}
-use Rattle.base.specs.Choice.{pick, by-test}
+use Rattle.base.specs.Choice.{pick}
 use Rattle.base.specs.Map.{Entry, Map, key_of, member}
 use Rattle.base.specs.declared.Range.{Range}
-use Rattle.group.specs.Pair.{Ranges, ranges, pair_at, pairs_at, entries_at, named}
+use Rattle.group.specs.Pair.{ranges, pair_at, pairs_at}
 use Rattle.bundle.specs.Bundle.{good_name, good_names, find_in}
 use Rattle.std.specs.Prelude.{Some, None}
 use Rattle.base.specs.Option.{on_option, on_option2}

@@ -1,6 +1,6 @@
 -- A bundle, at most 1,048,576 bytes: the count of texts, 1 to 64; per text the name's length, 1 to 255, the name, the text's
 -- length, the text. No equal names, no bytes over. Some (0, is) the sheet.
-use Rattle.std.specs.Prelude.{ℕ, zero, suc, ◌+◌, ◌≤◌, Bool, true, false, not, ◌≡◌, List, [], ◌∷◌, ◌++◌, map, eqb, ltb, length, Option, Some, None, Result, Ok, Err}
+use Rattle.std.specs.Prelude.{ℕ, ◌+◌, ◌≤◌, Bool, true, false, not, ◌≡◌, List, [], ◌∷◌, ◌++◌, map, eqb, ltb, length, Option, Some, None, Result, Ok, Err}
 use Rattle.base.specs.Bytes.{Bytes, same, within}
 use Rattle.base.specs.Choice.{pick}
 use Rattle.base.specs.Map.{Map, key_of, member}

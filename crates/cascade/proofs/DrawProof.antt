@@ -6,14 +6,14 @@ use Rattle.std.proofs.Math.Path.{◌≡◌, refl, ap}
 use Rattle.std.specs.Prelude.{◌↔◌, Bool, true, false, ◌&&◌, ◌||◌, not, cond, eqb, leb, ltb, ℤ, pos, negsuc, Float}
 use Rattle.std.specs.Bool.{beq}
 use Rattle.std.proofs.Math.Bool.{and-true, and_comm}
-use mathlib.Core.List.{List, [], ◌∷◌, ◌++◌, map, append_assoc}
+use mathlib.Core.List.{List, [], ◌∷◌, ◌++◌, append_assoc}
 use Rattle.std.proofs.Math.Dec.{T, is_le}
 use Rattle.std.proofs.Math.ListN.{length}
 use Rattle.std.specs.Float.{nan, inf, fin}
 use Rattle.std.specs.Float.Ieee.{below, level, lt, eq, up, down, is_nan, of_int, neg}
 use Rattle.std.proofs.lemmas.Bool.{eqb-false, lt-leb, not-true}
 use Rattle.base.specs.Choice.{by-test, clash, or_left, or_right}
-use Rattle.base.specs.Map.{Entry, Map}
+use Rattle.base.specs.Map.{Map}
 use Rattle.base.specs.Entity.{Entity}
 use Rattle.base.specs.Refusal.{of_entity}
 use Rattle.base.specs.declared.refusal.Refusal.{Refusal}

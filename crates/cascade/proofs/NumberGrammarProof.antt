@@ -8,7 +8,7 @@ use Rattle.std.proofs.lemmas.Bool.{lt-leb}
 use Rattle.base.specs.Bytes.{Bytes, ascii, same}
 use Rattle.base.specs.Choice.{by-test, and_left, and_right}
 use Rattle.base.proofs.Compare.{same_refl, same_true}
-use Rattle.cascade.specs.Number.{is_minus, is_plus, is_dot, is_e, is_digit, lower_case, negative, unsigned, digits, after_digits, spelt, whole_number, with_sign, signed_number, in_i64, ranged, as_integer, Decimal, decimals, after_decimals, exponent_of, decimal_from, decimal_of, reads, malformed, scaled, value_of, unsigned_number, tag_number}
+use Rattle.cascade.specs.Number.{is_minus, is_plus, is_dot, is_e, is_digit, lower_case, negative, unsigned, digits, after_digits, spelt, whole_number, with_sign, signed_number, in_i64, ranged, as_integer, Decimal, decimals, after_decimals, exponent_of, decimal_from, decimal_of, reads, malformed, value_of, unsigned_number, tag_number}
 use Rattle.cascade.specs.NumberGrammar.{all_digits, Sign, absent, plus, minus, Fraction, dot, Exponent, written, Spells, Word, infinite, infinity, not_number, SpellsInteger}
 
 none_some : {A B : Type 0} (x : A) → none ≡ some x → B

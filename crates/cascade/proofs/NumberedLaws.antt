@@ -1,5 +1,5 @@
 -- Sheets whose properties are numbers into a table: the answer over the numbers, mapped, is the answer over the values.
-use Rattle.std.specs.Prelude.{ℕ, ◌≡◌, cond, ltb, length}
+use Rattle.std.specs.Prelude.{ℕ, ◌≡◌, ltb, length}
 use Rattle.std.proofs.Math.Path.{refl}
 use Rattle.std.proofs.Common.{◌∙◌, ap}
 use mathlib.Core.List.{List, [], ◌∷◌, foldl, map, map-append, map-map}
@@ -7,7 +7,7 @@ use Rattle.std.proofs.Math.Option.{Option, none, some, get_or}
 use Rattle.std.proofs.lemmas.List.{length-map}
 use Rattle.base.specs.Bytes.{Bytes, same}
 use Rattle.base.specs.Choice.{by-test}
-use Rattle.base.specs.Map.{Entry, Map, entry, key_of, lookup, member}
+use Rattle.base.specs.Map.{Map, key_of, lookup, member}
 use Rattle.base.specs.Entity.{Entity}
 use Rattle.base.proofs.Compare.{same_true}
 use Rattle.sheet.specs.Sheet.{Rule}
@@ -17,7 +17,7 @@ use Rattle.cascade.specs.Clause.{star, Clause, clauses}
 use Rattle.cascade.specs.Match.{verdict}
 use Rattle.cascade.proofs.MatchLaws.{by-verdict}
 use Rattle.cascade.specs.Cascade.{Hit, Layers, reaches, receive, ensure, touch, step}
-use Rattle.cascade.specs.Walk.{Answer, refused, layers, to_hit, crowded, admit, walk, property_maps}
+use Rattle.cascade.specs.Walk.{Answer, layers, to_hit, crowded, admit, walk, property_maps}
 use Rattle.cascade.specs.Isolation.{strike, Agree}
 use Rattle.cascade.proofs.IsolationProof.{isolated}
 use Rattle.cascade.specs.Numbered.{map_layers, map_hit, map_clause, map_rule, map_answer, assign, spelled}

@@ -1,5 +1,5 @@
 -- The drawing list: the styled layers of all entities in drawing order, or the refusal of the first entity that is refused.
-use Rattle.std.specs.Prelude.{ℕ, suc, ◌+◌, ◌≡◌, Bool, true, false, ◌&&◌, ◌||◌, not, cond, List, [], ◌∷◌, ◌++◌, map, leb, ltb, length, ℤ, pos, Float}
+use Rattle.std.specs.Prelude.{ℕ, suc, ◌+◌, ◌≡◌, Bool, true, false, ◌&&◌, ◌||◌, not, cond, List, [], ◌∷◌, ◌++◌, leb, ltb, length, ℤ, pos, Float}
 use Rattle.std.proofs.Math.Option.{get_or}
 use Rattle.std.specs.Float.Ieee.{is_nan}
 use Rattle.base.specs.Bytes.{Bytes}

@@ -1,27 +1,27 @@
 -- Reading an entity is the inverse of writing it: nothing within the limits is refused, and what is read was written there.
-use Prim.Native.Nat.{ℕ, zero, suc, ◌+◌, ◌-◌, ◌<◌, ◌≤◌}
+use Prim.Native.Nat.{ℕ, ◌+◌, ◌-◌, ◌<◌, ◌≤◌}
 use native.Mathlib.Omega.{arith}
 use native.Mathlib.Numerals.{add-one}
 use mathlib.Core.Path.{◌≡◌, refl, sym, ◌∙◌, ap, ap₂, subst}
-use mathlib.Core.Bool.{Bool, true, false}
-use mathlib.Core.List.{List, [], ◌∷◌, ◌++◌, map, append_assoc, append-nil}
-use lib.Dec.{leb, ltb, eqb}
+use mathlib.Core.Bool.{true}
+use mathlib.Core.List.{◌∷◌, ◌++◌, map, append_assoc}
+use lib.Dec.{leb, ltb}
 use lib.ListN.{length, get_or, drop, length-append, length-drop, length-map}
 use lib.Seq.{drop-cons, drop-drop, drop-append_seam}
 use borrow.Author.Tests.{lt-leb, le-ltb, leb-true, leb-false, ltb-false, eqb-true}
 use Rattle.base.specs.Bytes.{Bytes, AllBytes}
 use Rattle.base.specs.Choice.{pick, by-test, and_right}
 use Rattle.base.specs.Entity.{Entity}
-use Rattle.base.specs.Map.{Entry, Map, key_of}
+use Rattle.base.specs.Map.{Map, key_of}
 use Rattle.group.specs.Number.{number_at, group_of}
-use Rattle.group.specs.Pair.{skip_of, pairs_at, entries_at, named, sized_bytes, pair_bytes, map_bytes}
+use Rattle.group.specs.Pair.{skip_of, pairs_at, entries_at, named, map_bytes}
 use Rattle.group.proofs.Numbers.{number_read_at, number_written_at, number_most, number_within}
 use Rattle.group.proofs.Pairs.{AllShort, all_short, pairs_read, pairs_written, pairs_all, skip_within}
 use Rattle.entity.specs.Layout.{kind_fits, rising, tags_of, value_of, closed_of, tags_at, entity_at, entity_bytes, IsEntity}
 use Rattle.entity.specs.declared.Sort.{Sort}
 use Rattle.entity.specs.declared.Sort.TheVariants.{Any, Nodes, Areas}
 use Rattle.entity.specs.declared.EntityRange.{EntityRange}
-use Rattle.std.specs.Prelude.{Option, Some, None}
+use Rattle.std.specs.Prelude.{Some}
 use Rattle.base.proofs.Options.{by_option, by_option2, none_some}
 use Rattle.base.specs.Option.{on_option}
 

@@ -1,8 +1,7 @@
 -- The order of keys, as the code goes through them.
-use Prim.Native.Nat.{ℕ}
-use mathlib.Core.Path.{◌≡◌, refl, sym, ◌∙◌, ap, ap₂}
+use mathlib.Core.Path.{◌≡◌, sym, ◌∙◌, ap₂}
 use mathlib.Core.Bool.{Bool, true, false}
-use mathlib.Core.List.{List, [], ◌∷◌, map}
+use mathlib.Core.List.{[], ◌∷◌, map}
 use Rattle.base.specs.Bytes.{Bytes, precedes}
 use Rattle.base.specs.Choice.{pick}
 use Rattle.base.specs.Map.{Entry, Map, key_of}

@@ -1,7 +1,7 @@
 -- Going through a stream to an entity of a number.
-use Prim.Native.Nat.{ℕ, zero, suc, ◌+◌, ◌-◌, ◌<◌}
+use Prim.Native.Nat.{ℕ, zero, suc, ◌-◌}
 use native.Mathlib.Omega.{arith}
-use mathlib.Core.Path.{◌≡◌, refl, sym, ◌∙◌, ap}
+use mathlib.Core.Path.{◌≡◌, refl}
 use Rattle.base.specs.Bytes.{Bytes}
 use Rattle.group.specs.Pair.{range}
 use Rattle.entity.specs.Layout.{entity_at, nth_from}

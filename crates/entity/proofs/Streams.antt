@@ -1,21 +1,21 @@
 -- A single entity and a stream that were written are read back.
-use Prim.Native.Nat.{ℕ, zero, suc, ◌+◌, ◌-◌, ◌<◌, ◌≤◌}
+use Prim.Native.Nat.{ℕ, zero, suc, ◌+◌, ◌<◌, ◌≤◌}
 use native.Mathlib.Omega.{arith}
 use mathlib.Core.Path.{◌≡◌, refl, sym, ◌∙◌, ap}
-use mathlib.Core.Bool.{Bool, true, false}
-use mathlib.Core.List.{List, [], ◌∷◌, ◌++◌, append-nil}
-use mathlib.Core.Option.{Option, none, some}
+use mathlib.Core.Bool.{Bool, true}
+use mathlib.Core.List.{List, [], ◌∷◌, append-nil}
+use mathlib.Core.Option.{none}
 use lib.ListN.{length, drop, length-append, length-drop}
 use borrow.Author.Tests.{le-leb, lt-leb, le-ltb, eq-eqb}
 use Rattle.base.specs.Bytes.{Bytes}
 use Rattle.base.specs.Choice.{pick}
 use Rattle.base.specs.Entity.{Entity}
 use Rattle.group.specs.Pair.{all_utf8}
-use Rattle.entity.specs.Layout.{kind_fits, tags_of, value_of, entity_at, single_of, next_of, Stream, stream_from, stream_of, with_first, entity_bytes, IsEntity, stream_bytes}
+use Rattle.entity.specs.Layout.{kind_fits, tags_of, value_of, entity_at, single_of, next_of, stream_from, stream_of, entity_bytes, IsEntity, stream_bytes}
 use Rattle.entity.specs.declared.Sort.{Sort}
-use Rattle.entity.specs.declared.Sort.TheVariants.{Any, Nodes, Areas}
+use Rattle.entity.specs.declared.Sort.TheVariants.{Any}
 use Rattle.entity.specs.declared.EntityRange.{EntityRange}
-use Rattle.entity.proofs.Inverse.{EntityRead, entity_read}
+use Rattle.entity.proofs.Inverse.{entity_read}
 use Rattle.std.specs.Prelude.{Some, Ok, None}
 use Rattle.base.specs.Option.{on_option, on_result}
 

@@ -1,5 +1,5 @@
 -- The proof of LoadsAlike: a term that copies the reader.
-use Prim.Native.Nat.{ℕ, zero, suc, ◌+◌, ◌≤◌}
+use Prim.Native.Nat.{ℕ, zero, suc, ◌≤◌}
 use Rattle.std.proofs.Common.{arith}
 use Rattle.std.specs.Prelude.{◌≡◌, Bool, true, false, cond, length, Float}
 use Rattle.std.proofs.Math.Path.{refl, subst}

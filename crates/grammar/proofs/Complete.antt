@@ -1,5 +1,5 @@
 -- What the grammar has, and the tables have room for, is read, with the same reading and these entries.
-use Prim.Native.Nat.{ℕ, zero, suc, ◌+◌, ◌≤◌, ◌<◌}
+use Prim.Native.Nat.{ℕ, zero, suc, ◌≤◌, ◌<◌}
 use Rattle.std.proofs.Common.{arith, sym, ◌∙◌, subst, append_assoc}
 use Rattle.std.specs.Prelude.{length, ◌≡◌, Bool, List, [], ◌∷◌, ◌++◌, Float}
 use Rattle.std.proofs.Math.ListN.{length-append}

@@ -1,12 +1,12 @@
 -- The proof of Spelled.
 use Rattle.std.specs.Prelude.{◌≡◌, Float}
 use Rattle.std.proofs.Math.Path.{refl}
-use Rattle.std.proofs.Common.{sym, ◌∙◌, ap, subst}
+use Rattle.std.proofs.Common.{sym, ◌∙◌, ap}
 use mathlib.Core.List.{List, [], ◌∷◌, ◌++◌, append_assoc}
 use Rattle.grammar.specs.Reading.{Test, unary, text, numeric, plain, digits, Value, word, quoted, colored, numbers, width_delta, Selector, Property, Rule, rule, rule_item, color_item, Reading, rules_of}
 use Rattle.grammar.specs.Input.{Entry, rule_entry, selector_entry, test_entry, property_entry, number_entry, color_entry}
 use Rattle.grammar.specs.Entries.{test_entries, tests_entries, numbers_entries, value_entries, properties_entries, selectors_entries, rule_entries, entries_of}
-use Rattle.grammar.specs.Capacity.{Tables, add, add_all, tables_of}
+use Rattle.grammar.specs.Capacity.{Tables, add, add_all}
 use Rattle.grammar.specs.Spelled.{rules_from, Spelled}
 
 append_none : {A : Type 0} (xs : List A) → xs ++ [] ≡ xs

@@ -3,20 +3,20 @@ use Prim.Native.Nat.{ℕ, zero, suc, ◌+◌, ◌-◌, ◌<◌, ◌≤◌}
 use native.Mathlib.Omega.{arith}
 use mathlib.Core.Path.{◌≡◌, refl, sym, ◌∙◌, ap, ap₂}
 use mathlib.Core.Bool.{Bool, true, false}
-use mathlib.Core.List.{List, [], ◌∷◌, ◌++◌, map, append_assoc}
+use mathlib.Core.List.{[], ◌∷◌, ◌++◌, map, append_assoc}
 use lib.Dec.{leb}
 use lib.ListN.{length, take, drop, length-append, length-drop, take-append-drop}
 use lib.Seq.{drop-drop, take-append_seam, drop-append_seam}
 use borrow.Author.Tests.{le-leb, leb-true}
 use Rattle.base.specs.Bytes.{Bytes, AllBytes, within}
 use Rattle.base.specs.Map.{Entry, Map, entry}
-use Rattle.base.specs.Choice.{pick, by-test, clash}
+use Rattle.base.specs.Choice.{pick, by-test}
 use Rattle.base.specs.declared.Range.{Range}
 use Rattle.utf8.specs.Utf8.{is_utf8}
 use Rattle.group.specs.Number.{number_at, group_of}
-use Rattle.group.specs.Pair.{range, sized_of, part_at, Ranges, ranges, pair_at, pairs_at, skip_of, nth_of, named, entries_at, all_utf8, sized_bytes, pair_bytes, map_bytes}
+use Rattle.group.specs.Pair.{range, sized_of, part_at, ranges, pair_at, pairs_at, skip_of, nth_of, named, entries_at, all_utf8, sized_bytes, pair_bytes, map_bytes}
 use Rattle.group.proofs.Numbers.{number_read_at, number_written_at, number_within, group_length}
-use Rattle.std.specs.Prelude.{Option, Some, None}
+use Rattle.std.specs.Prelude.{Some, None}
 use Rattle.base.specs.Option.{on_option, on_option2, option_none, option_some}
 use Rattle.base.proofs.Options.{by_option, by_option2, none_some, some2_first, some2_second}
 

@@ -1,5 +1,5 @@
 -- Group numbers: seven bits a byte, lowest first, the top bit set on all bytes but the last, shortest form only.
-use Rattle.std.specs.Prelude.{ℕ, zero, suc, ◌+◌, ◌*◌, ◌/◌, ◌%◌, List, [], ◌∷◌, ltb, leb, eqb, drop, Option, Some, None}
+use Rattle.std.specs.Prelude.{ℕ, zero, suc, ◌+◌, ◌*◌, ◌/◌, ◌%◌, [], ◌∷◌, ltb, leb, eqb, drop, Option, Some, None}
 use Rattle.base.specs.Bytes.{Bytes}
 use Rattle.base.specs.Choice.{pick}
 use Rattle.base.specs.Option.{on_option2}

@@ -1,5 +1,4 @@
 -- The loop of find_from, by what stands at each place.
-use Prim.Native.Nat.{◌-◌}
 use native.Mathlib.Omega.{arith}
 use mathlib.Core.Path.{◌∙◌}
 use Rattle.base.specs.Choice.{via}

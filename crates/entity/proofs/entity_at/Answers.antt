@@ -1,5 +1,5 @@
 -- The layout of an entity, down the tests of its definition.
-use mathlib.Core.Path.{◌∙◌, ap, refl}
+use mathlib.Core.Path.{ap, refl}
 use mathlib.Core.Bool.{not}
 use borrow.Author.Tests.{le-leb, lt-leb, not-true, not-false}
 use Rattle.base.specs.Choice.{via, if_true, if_false}

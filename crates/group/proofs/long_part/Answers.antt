@@ -1,4 +1,3 @@
-use mathlib.Core.Path.{refl}
 use Rattle.base.specs.Choice.{via}
 use Rattle.group.specs.Pair.{part_at}
 use Rattle.group.proofs.long_part.Goals as goal
