@@ -43,26 +43,15 @@ pub enum PropertyValue {
 pub fn property_value(properties: &[u32], numbers: &[f64], i: usize) -> PropertyValue
     ensures { result ≡ value_at properties.now numbers.now i }
 {
-    let kind = word_of(properties, i, 0);
-    if kind == 1 {
-        return PropertyValue::Identifier(Name::Plain(range_of(properties, i, 3)));
+    match word_of(properties, i, 0) {
+        1 => PropertyValue::Identifier(Name::Plain(range_of(properties, i, 3))),
+        2 => joined_value(properties, i),
+        3 => PropertyValue::Text(range_of(properties, i, 3)),
+        4 => color_value(properties, i),
+        5 => PropertyValue::Numbers(range_of(properties, i, 3)),
+        6 => PropertyValue::WidthDelta(base::float_at(numbers, word_of(properties, i, 3))),
+        _ => PropertyValue::NoValue,
     }
-    if kind == 2 {
-        return joined_value(properties, i);
-    }
-    if kind == 3 {
-        return PropertyValue::Text(range_of(properties, i, 3));
-    }
-    if kind == 4 {
-        return color_value(properties, i);
-    }
-    if kind == 5 {
-        return PropertyValue::Numbers(range_of(properties, i, 3));
-    }
-    if kind == 6 {
-        return PropertyValue::WidthDelta(base::float_at(numbers, word_of(properties, i, 3)));
-    }
-    PropertyValue::NoValue
 }
 
 fn joined_value(t: &[u32], i: usize) -> PropertyValue
