@@ -10,7 +10,8 @@ use Rattle.base.specs.Choice.{pick, if_false}
 use Rattle.base.specs.Table.{zero_float}
 use Rattle.base.specs.declared.Range.{Range}
 use Rattle.color.specs.Named.{rgb}
-use Rattle.table.specs.Value.{word_at, range_at, value_at}
+use Rattle.color.specs.declared.Color.{Color}
+use Rattle.table.specs.Value.{word_at, range_at, color_at, value_at}
 use Rattle.table.specs.declared.Name.TheVariants.{Plain, Joined}
 use Rattle.table.specs.declared.PropertyValue.{PropertyValue}
 use Rattle.table.specs.declared.PropertyValue.TheVariants.{NoValue, Identifier, Text, Shade, Numbers, WidthDelta}
@@ -21,13 +22,13 @@ word_past t i j h = sym (get_or-eq_default t 0 h)
 pub range_is : (t : List ℕ) (i j a b : ℕ) → a ≡ word_at t i j → b ≡ word_at t i (j + 1) → record { from = a; to = b } ≡ range_at t i j
 range_is t i j a b p q = ap₂ (λ (x y : ℕ). record { from = x; to = y }) p q
 
-pub shade_is :
+pub color_is :
     (t : List ℕ) (i a b c : ℕ)
     → a ≡ word_at t i 3
     → b ≡ word_at t i 4
     → c ≡ word_at t i 5
-    → Shade (rgb (a % 256) (b % 256) (c % 256)) ≡ Shade (rgb (word_at t i 3 % 256) (word_at t i 4 % 256) (word_at t i 5 % 256))
-shade_is t i a b c p q r = cc
+    → rgb (a % 256) (b % 256) (c % 256) ≡ color_at t i
+color_is t i a b c p q r = cc
 
 -- the kinds one after another
 abbrev kinds : List ℕ → List Float → ℕ → ℕ → PropertyValue
@@ -36,7 +37,7 @@ kinds t xs i n =
     (pick (eqb n 2) (Identifier (Joined (range_at t i 3) (range_at t i 5)))
     (pick (eqb n 3) (Text (range_at t i 3))
     (pick (eqb n 4)
-    (Shade (rgb (word_at t i 3 % 256) (word_at t i 4 % 256) (word_at t i 5 % 256)))
+    (Shade (color_at t i))
     (pick (eqb n 5) (Numbers (range_at t i 3))
     (pick (eqb n 6) (WidthDelta (get_or xs (word_at t i 3) zero_float)) NoValue)))))
 
@@ -57,13 +58,9 @@ module _ (t : List ℕ) (xs : List Float) (i k : ℕ) (e : k ≡ word_at t i 0) 
   unfolding pick
   value_3 r p = by_kind 3 (ap Text p)
 
-  pub value_4 :
-      (v : PropertyValue)
-      → v ≡ Shade (rgb (word_at t i 3 % 256) (word_at t i 4 % 256) (word_at t i 5 % 256))
-      → k ≡ 4
-      → v ≡ value_at t xs i
+  pub value_4 : (c : Color) → c ≡ color_at t i → k ≡ 4 → Shade c ≡ value_at t xs i
   unfolding pick
-  value_4 v p = by_kind 4 p
+  value_4 c p = by_kind 4 (ap Shade p)
 
   pub value_5 : (r : Range) → r ≡ range_at t i 3 → k ≡ 5 → Numbers r ≡ value_at t xs i
   unfolding pick

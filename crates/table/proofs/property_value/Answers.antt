@@ -12,7 +12,7 @@ pub returns-in-3 : goal.returns-in-3
 returns-in-3 c = value_3 c.args.properties.now c.args.numbers.now c.args.i _ c.word_of.ensures _ c.range_of-in-3.ensures c.in-3.is
 
 pub returns-in-4 : goal.returns-in-4
-returns-in-4 c = value_4 c.args.properties.now c.args.numbers.now c.args.i _ c.word_of.ensures _ c.color_value.ensures c.in-4.is
+returns-in-4 c = value_4 c.args.properties.now c.args.numbers.now c.args.i _ c.word_of.ensures _ c.color_at.ensures c.in-4.is
 
 pub returns-in-5 : goal.returns-in-5
 returns-in-5 c = value_5 c.args.properties.now c.args.numbers.now c.args.i _ c.word_of.ensures _ c.range_of-in-5.ensures c.in-5.is
