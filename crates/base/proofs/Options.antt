@@ -1,6 +1,7 @@
 -- What an Option or a Result is, by cases, and what two equal ones hold.
-use Rattle.std.specs.Prelude.{◌≡◌, ℕ, Option, Some, None, Result, Ok, Err, IsErr, IsErrAnd}
-use Rattle.std.proofs.Common.{refl, ap, ◌∙◌, arith}
+use Rattle.std.specs.Prelude.{◌≡◌, ℕ, Option, Some, None, Result, Ok, Err, IsErr, IsErrAnd, is_ok, ok_or}
+use Rattle.std.specs.Result.{result_ok}
+use Rattle.std.proofs.Common.{refl, sym, ap, ◌∙◌, true≢false, arith}
 use Rattle.base.specs.Option.{on_option, on_option2, on_result, on_result2}
 
 -- the two cases, each with its equation
@@ -81,6 +82,17 @@ ok4_fourth {d = d} e = ap (λ o. on_result o (λ _. d) (λ p. p.3)) e
 pub handed_on : {A E : Type 0} (r : Result A E) {e : E} → IsErr r × IsErrAnd r (λ x. x ≡ e) → r ≡ Err e
 handed_on (Err x) h = ap Err h.1
 handed_on (Ok x) h = absurd h.1
+
+-- what an option is behind `ok_or(..)?`, and the error that is handed on
+pub or_some : {A E : Type 0} {x : Option A} {r : Result A E} {a : A} → x ≡ result_ok r → r ≡ Ok a → x ≡ Some a
+or_some e h = e ∙ ap result_ok h
+
+pub or_none : {A E : Type 0} {x : Option A} {r : Result A E} {d : E} → x ≡ result_ok r → r ≡ Err d → x ≡ None
+or_none e h = e ∙ ap result_ok h
+
+pub or_err : {A E : Type 0} (x : Option A) {r : Result A E} {d d' : E} → r ≡ ok_or x d' → r ≡ Err d → d ≡ d'
+or_err None e h = let p = sym h ∙ e in cc
+or_err (Some a) e h = absurd (true≢false (ap is_ok (sym e ∙ h)))
 
 -- what is no Some, as behind `let Some(..) = .. else`
 pub not_some : {A : Type 0} (x : Option A) → ((a : A) → x ≡ Some a → ⊥) → x ≡ None

@@ -16,7 +16,7 @@ use Rattle.entries.specs.Put.{put_of}
 use Rattle.table.specs.Value.{word_at, range_at}
 use Rattle.table.specs.declared.Name.{Name}
 use Rattle.table.specs.declared.PropertyValue.{PropertyValue}
-use Rattle.keep.specs.Lent.{keep_of, value_row, word_row, recolored, color_at, place_from}
+use Rattle.keep.specs.Lent.{keep_of, value_row, word_row, recolored, place_from}
 use Rattle.keep.specs.declared.Tally.{Tally}
 use Rattle.std.specs.Prelude.{Option, Some, None}
 
@@ -51,14 +51,6 @@ recolored_out t i c h =
     let d : length t ≤ i * 8 + 3 + 1 + 1 = omega arith in
     rw (set_out t (i * 8 + 3) c.r a, set_out t (i * 8 + 3 + 1) c.g b, set_out t (i * 8 + 3 + 1 + 1) c.b d) refl
 
-pub has_name :
-    (bundle : Bytes) (t : List ℕ) (i from to : ℕ) (p name : Bytes)
-    → from ≡ word_at t i 1
-    → to ≡ word_at t i 2
-    → p ≡ within (record { from = from; to = to }) bundle
-    → same name p ≡ same name (within (range_at t i 1) bundle)
-has_name bundle t i from to p name e f g = ap (same name) (g ∙ rw (e, f) refl)
-
 module _ (bundle name : Bytes) (t : List ℕ) (n i : ℕ) where
   turn : i < n → place_from bundle name t i (n - i) ≡ place_from bundle name t i (suc (n - (i + 1)))
   turn h = ap (place_from bundle name t i) (let e : n - i ≡ suc (n - (i + 1)) = omega arith in e)
@@ -77,14 +69,6 @@ module _ (bundle name : Bytes) (t : List ℕ) (n i : ℕ) where
   pub place_none : n ≤ i → None ≡ place_from bundle name t i (n - i)
   unfolding place_from
   place_none h = ap (place_from bundle name t i) (let e : 0 ≡ n - i = omega arith in e)
-
-pub same_color :
-    (t : List ℕ) (i r g b : ℕ)
-    → r ≡ word_at t i 3
-    → g ≡ word_at t i 4
-    → b ≡ word_at t i 5
-    → record { r = r % 256; g = g % 256; b = b % 256 } ≡ color_at t i
-same_color t i r g b d e f = rw (d, e, f) refl
 
 pub recolored_by :
     (t u v w : List ℕ) (i : ℕ) (c : Color)

@@ -11,12 +11,12 @@ use Rattle.base.specs.Choice.{by-test, if_true, if_false}
 use Rattle.base.specs.Table.{stored}
 use Rattle.base.specs.declared.Range.{Range}
 use Rattle.color.specs.declared.Color.{Color}
-use Rattle.table.specs.Value.{word_at, range_at, word}
+use Rattle.table.specs.Value.{word_at, range_at, color_at, word}
 use Rattle.entries.specs.Words.{color_words}
 use Rattle.grammar.specs.Token.{Name as Name'}
 use Rattle.grammar.specs.Reading.{ColorDef, color_def, Colors, define}
 use Rattle.keep.specs.Encode.{color_rows}
-use Rattle.keep.specs.Lent.{color_at, recolored, colors_from, colors_of, place_from}
+use Rattle.keep.specs.Lent.{recolored, colors_from, colors_of, place_from}
 use Rattle.input.specs.Text.{Small, name_in, range_of}
 use Rattle.input.proofs.Genuine.{Genuine}
 use Rattle.std.specs.Prelude.{Option, Some, None}

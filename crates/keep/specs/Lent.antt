@@ -1,15 +1,14 @@
 -- The lent tables as a store of the grammar's reader: the words of each entry, and the counts.
-use Rattle.std.specs.Prelude.{ℕ, zero, suc, ◌+◌, ◌*◌, ◌%◌, ◌<◌, List, [], ◌∷◌, Float, Option, Some, None}
+use Rattle.std.specs.Prelude.{ℕ, zero, suc, ◌+◌, ◌*◌, ◌<◌, List, [], ◌∷◌, Float, Option, Some, None}
 use Rattle.std.proofs.Math.Option.{Option as Option', none, some}
 use Rattle.base.specs.Bytes.{Bytes, same, within}
 use Rattle.base.specs.Choice.{pick}
 use Rattle.base.specs.Table.{stored}
 use Rattle.base.specs.declared.Range.{Range}
-use Rattle.color.specs.Named.{rgb}
 use Rattle.color.specs.declared.Color.{Color}
 use Rattle.sheet.specs.Sheet.{ObjectType, all, canvas, meta, node, way, area, UnaryTest, exists, not_exists, is_true, is_false, TextTest, equal, not_equal, NumericTest, less, less_or_equal, greater, greater_or_equal}
 use Rattle.entries.specs.Put.{put_of}
-use Rattle.table.specs.Value.{word_at, range_at}
+use Rattle.table.specs.Value.{range_at, color_at}
 use Rattle.entries.specs.Words.{rule_words, selector_words, test_words, property_words, color_words}
 use Rattle.table.specs.declared.Name.{Name}
 use Rattle.table.specs.declared.Name.TheVariants.{Plain, Joined}
@@ -183,9 +182,6 @@ keep_rule_of n t =
     keep_of 8 t n.rules (rule_words (range n.selector n.selectors) (range n.property n.properties)) (one_rule n)
 
 -- ---- colours
-
-abbrev pub color_at : List ℕ → ℕ → Color
-color_at t i = rgb (word_at t i 3 % 256) (word_at t i 4 % 256) (word_at t i 5 % 256)
 
 abbrev pub recolored : List ℕ → ℕ → Color → List ℕ
 recolored t i c = stored t (i * 8 + 3) (c.r ∷ c.g ∷ c.b ∷ [])

@@ -3,17 +3,16 @@
 
 ghost use Rattle.std.specs.Prelude.{◌≡◌};
 ghost use Rattle.base.specs.Bytes.{same, within};
-ghost use Rattle.color.specs.Named.{rgb};
 ghost use Rattle.entries.specs.Put.{put_of};
 ghost use Rattle.table.specs.Value.{range_at};
 ghost use Rattle.entries.specs.Words.{test_words};
-ghost use Rattle.keep.specs.Lent.{color_at, recolored, place_from, value_row, word_row, add_color_of, keep_number_of, keep_test_of, keep_property_of, keep_selector_of, keep_rule_of, keep_color_of};
+ghost use Rattle.keep.specs.Lent.{recolored, place_from, value_row, word_row, add_color_of, keep_number_of, keep_test_of, keep_property_of, keep_selector_of, keep_rule_of, keep_color_of};
 
 use base::refusal::Refusal;
 use base::{Range, set_word};
 use color::Color;
 use cursor::Cursor;
-use table::{Name, PropertyValue, word_of};
+use table::{Name, PropertyValue, range_of};
 
 // How many entries each table holds, and the first of those that no entry has taken yet: a selector takes the tests since the
 // last one, a rule the selectors and properties, a test and a property the numbers.
@@ -203,17 +202,5 @@ pub fn find_color(bundle: &[u8], colors: &[u32], n: usize, name: Range) -> Optio
 fn has_name(bundle: &[u8], colors: &[u32], i: usize, name: &[u8]) -> bool
     ensures { result ≡ same name.now (within (range_at colors.now i 1) bundle.now) }
 {
-    let from = word_of(colors, i, 1);
-    let to = word_of(colors, i, 2);
-    base::same_bytes(name, base::part(bundle, Range { from, to }))
-}
-
-// Colour i.
-pub fn color_at(colors: &[u32], i: usize) -> Color
-    ensures { result ≡ color_at colors.now i }
-{
-    let r = (word_of(colors, i, 3) % 256) as u8;
-    let g = (word_of(colors, i, 4) % 256) as u8;
-    let b = (word_of(colors, i, 5) % 256) as u8;
-    Color { r, g, b }
+    base::same_bytes(name, base::part(bundle, range_of(colors, i, 1)))
 }

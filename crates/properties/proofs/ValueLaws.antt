@@ -10,11 +10,11 @@ use Rattle.base.specs.Choice.{pick, different}
 use Rattle.base.specs.declared.Range.{Range}
 use Rattle.base.specs.declared.refusal.Refusal.{Refusal}
 use Rattle.cursor.specs.declared.Cursor.{Cursor}
-use Rattle.table.specs.Value.{range_at}
+use Rattle.table.specs.Value.{range_at, color_at}
 use Rattle.table.specs.declared.PropertyValue.{PropertyValue}
 use Rattle.grammar.specs.Reading.{Value, property, color_named}
 use Rattle.grammar.specs.Input.{property_entry, Answer, refused, on_option, after, keep, read}
-use Rattle.keep.specs.Lent.{Lent, lent, value_shown, fresh_numbers, keep_property_of, taken, put_entry, color_at, colors_from, place_from}
+use Rattle.keep.specs.Lent.{Lent, lent, value_shown, fresh_numbers, keep_property_of, taken, put_entry, colors_from, place_from}
 use Rattle.keep.specs.Source.{reading}
 use Rattle.input.specs.Source.{Spot, spot}
 use Rattle.input.specs.Text.{name_in, left, refusal_at, reached_at}

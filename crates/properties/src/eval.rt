@@ -77,10 +77,8 @@ fn store_delta(
 ) -> Result<(PropertyValue, Cursor, Tally), Refusal>
     ensures { DeltaKept source x c n numbers.old numbers.new result }
 {
-    match keep_number(numbers, n, x) {
-        None => Err(refuse_reached(TABLE_FULL, NUMBERS, source, c)),
-        Some(m) => Ok((PropertyValue::WidthDelta(x), c, m)),
-    }
+    let m = keep_number(numbers, n, x).ok_or(refuse_reached(TABLE_FULL, NUMBERS, source, c))?;
+    Ok((PropertyValue::WidthDelta(x), c, m))
 }
 
 // Behind the word eval, which begins at o.

@@ -19,8 +19,8 @@ use input::tokens::{
     refuse_reached,
 };
 use input::{Place, Source};
-use keep::{Tally, color_at, find_color, keep_number, keep_property};
-use table::{Name, PropertyValue};
+use keep::{Tally, find_color, keep_number, keep_property};
+use table::{Name, PropertyValue, color_at};
 use token_kind::Token;
 
 mod eval;
@@ -70,9 +70,7 @@ fn read_number_list(
     let mut at = c;
     let mut k = n;
     loop {
-        let Some(m) = keep_number(numbers, k, y) else {
-            return Err(refuse_reached(TABLE_FULL, NUMBERS, source, at));
-        };
+        let m = keep_number(numbers, k, y).ok_or(refuse_reached(TABLE_FULL, NUMBERS, source, at))?;
         let (next, d) = read_listed(bundle, source, at)?;
         let Some(z) = next else {
             return Ok((d, m));
@@ -147,16 +145,19 @@ fn read_reference(
 ) -> Result<(PropertyValue, Cursor, Tally), Refusal>
     ensures { ValueAnswer bundle.now source c n (reference_value (reading bundle.now) (colors_of bundle.now colors.now known) (name_in bundle.now name) (spot source c)) result }
 {
-    match find_color(bundle, colors, known, name) {
-        None => Err(refuse_reached(PARSE, COLOR_REFERENCE, source, c)),
-        Some(i) => end_value(
-            bundle,
-            source,
-            PropertyValue::Shade(color_at(colors, i)),
-            c,
-            n,
-        ),
-    }
+    let i = find_color(bundle, colors, known, name).ok_or(refuse_reached(
+        PARSE,
+        COLOR_REFERENCE,
+        source,
+        c,
+    ))?;
+    end_value(
+        bundle,
+        source,
+        PropertyValue::Shade(color_at(colors, i)),
+        c,
+        n,
+    )
 }
 
 // Behind the first number of a value.
@@ -250,10 +251,10 @@ fn store_property(
 ) -> Result<(Cursor, Tally), Refusal>
     ensures { PropertyKept source c n name value properties.old properties.new result }
 {
-    match keep_property(properties, n, name, value) {
-        None => Err(refuse_reached(TABLE_FULL, PROPERTIES, source, c)),
-        Some(m) => Ok((c, m)),
-    }
+    let m = keep_property(properties, n, name, value).ok_or(refuse_reached(
+        TABLE_FULL, PROPERTIES, source, c,
+    ))?;
+    Ok((c, m))
 }
 
 // The name of a property, or none at the closing brace.

@@ -88,10 +88,10 @@ fn store_selector(
 ) -> Result<(bool, Cursor, Tally), Refusal>
     ensures { SelectorKept source (kind_number kind) min max layer more c n selectors.old selectors.new result }
 {
-    match keep_selector(selectors, n, kind_number(kind), min, max, layer) {
-        None => Err(refuse_reached(TABLE_FULL, SELECTORS, source, c)),
-        Some(m) => Ok((more, c, m)),
-    }
+    let m = keep_selector(selectors, n, kind_number(kind), min, max, layer).ok_or(refuse_reached(
+        TABLE_FULL, SELECTORS, source, c,
+    ))?;
+    Ok((more, c, m))
 }
 
 // Behind the object type of a selector.
@@ -174,10 +174,8 @@ fn word_start(bundle: &[u8], a: Range, o: Place) -> Result<Start, Refusal>
     if is_colors(bundle, a) {
         return Ok(Start::ColorsBlock);
     }
-    match object_type(bundle, a) {
-        None => Err(refuse(PARSE, OBJECT_TYPE, o)),
-        Some(kind) => Ok(Start::Object(kind)),
-    }
+    let kind = object_type(bundle, a).ok_or(refuse(PARSE, OBJECT_TYPE, o))?;
+    Ok(Start::Object(kind))
 }
 
 fn rule_start(bundle: &[u8], t: Token, o: Place) -> Result<Start, Refusal>
@@ -199,10 +197,8 @@ fn store_rule(
 ) -> Result<(Cursor, Tally), Refusal>
     ensures { RuleKept source c n rules.old rules.new result }
 {
-    match keep_rule(rules, n) {
-        None => Err(refuse_reached(TABLE_FULL, RULES, source, c)),
-        Some(m) => Ok((c, m)),
-    }
+    let m = keep_rule(rules, n).ok_or(refuse_reached(TABLE_FULL, RULES, source, c))?;
+    Ok((c, m))
 }
 
 // Behind the opening brace of a rule.

@@ -39,10 +39,12 @@ fn store_definition(
     ensures { DefinitionKept bundle.now source name t c n colors.old colors.new result }
 {
     match t {
-        Token::Color(x) => match keep_color(bundle, colors, n, name, x) {
-            None => Err(refuse_reached(TABLE_FULL, COLORS, source, c)),
-            Some(m) => Ok((c, m)),
-        },
+        Token::Color(x) => {
+            let m = keep_color(bundle, colors, n, name, x).ok_or(refuse_reached(
+                TABLE_FULL, COLORS, source, c,
+            ))?;
+            Ok((c, m))
+        }
         _ => Ok((c, n)),
     }
 }
@@ -164,25 +166,26 @@ fn import_file(
     ensures { ImportRead bundle.now name source c depth (lent n rules.old selectors.old tests.old properties.old numbers.old colors.old) (λ m. lent m rules.new selectors.new tests.new properties.new numbers.new colors.new) result }
 {
     let d = expect_semicolon(bundle, source, c)?;
-    match find_text(bundle, base::part(bundle, name)) {
-        None => Err(refuse_reached(NO_SUCH_TEXT, 0, source, d)),
-        Some((number, range)) => {
-            if depth == 0 {
-                return Err(refuse_reached(TOO_DEEP, 0, source, d));
-            }
-            let m = parse(
-                bundle,
-                Source { number, range },
-                depth - 1,
-                n,
-                rules,
-                selectors,
-                tests,
-                properties,
-                numbers,
-                colors,
-            )?;
-            Ok((d, m))
-        }
+    let (number, range) = find_text(bundle, base::part(bundle, name)).ok_or(refuse_reached(
+        NO_SUCH_TEXT,
+        0,
+        source,
+        d,
+    ))?;
+    if depth == 0 {
+        return Err(refuse_reached(TOO_DEEP, 0, source, d));
     }
+    let m = parse(
+        bundle,
+        Source { number, range },
+        depth - 1,
+        n,
+        rules,
+        selectors,
+        tests,
+        properties,
+        numbers,
+        colors,
+    )?;
+    Ok((d, m))
 }

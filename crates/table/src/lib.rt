@@ -1,11 +1,10 @@
 // The tables of a sheet: words of their entries, and a property's value. docs/TABLES.md has every word.
 #![tactic(auto)]
 
-ghost use Rattle.std.specs.Prelude.{◌≡◌, ◌%◌, ◌<◌};
-ghost use Rattle.color.specs.Named.{rgb};
-ghost use Rattle.table.specs.Value.{word_at, range_at, value_at};
+ghost use Rattle.std.specs.Prelude.{◌≡◌, ◌<◌};
+ghost use Rattle.table.specs.Value.{word_at, range_at, color_at, value_at};
 ghost use Rattle.table.specs.declared.Name.TheVariants.{Joined};
-ghost use Rattle.table.specs.declared.PropertyValue.TheVariants.{Identifier, Shade};
+ghost use Rattle.table.specs.declared.PropertyValue.TheVariants.{Identifier};
 
 use base::Range;
 use color::Color;
@@ -43,26 +42,15 @@ pub enum PropertyValue {
 pub fn property_value(properties: &[u32], numbers: &[f64], i: usize) -> PropertyValue
     ensures { result ≡ value_at properties.now numbers.now i }
 {
-    let kind = word_of(properties, i, 0);
-    if kind == 1 {
-        return PropertyValue::Identifier(Name::Plain(range_of(properties, i, 3)));
+    match word_of(properties, i, 0) {
+        1 => PropertyValue::Identifier(Name::Plain(range_of(properties, i, 3))),
+        2 => joined_value(properties, i),
+        3 => PropertyValue::Text(range_of(properties, i, 3)),
+        4 => PropertyValue::Shade(color_at(properties, i)),
+        5 => PropertyValue::Numbers(range_of(properties, i, 3)),
+        6 => PropertyValue::WidthDelta(base::float_at(numbers, word_of(properties, i, 3))),
+        _ => PropertyValue::NoValue,
     }
-    if kind == 2 {
-        return joined_value(properties, i);
-    }
-    if kind == 3 {
-        return PropertyValue::Text(range_of(properties, i, 3));
-    }
-    if kind == 4 {
-        return color_value(properties, i);
-    }
-    if kind == 5 {
-        return PropertyValue::Numbers(range_of(properties, i, 3));
-    }
-    if kind == 6 {
-        return PropertyValue::WidthDelta(base::float_at(numbers, word_of(properties, i, 3)));
-    }
-    PropertyValue::NoValue
 }
 
 fn joined_value(t: &[u32], i: usize) -> PropertyValue
@@ -73,17 +61,18 @@ fn joined_value(t: &[u32], i: usize) -> PropertyValue
     PropertyValue::Identifier(Name::Joined(first, second))
 }
 
-fn color_value(t: &[u32], i: usize) -> PropertyValue
-    ensures { result ≡ Shade (rgb (word_at t.now i 3 % 256) (word_at t.now i 4 % 256) (word_at t.now i 5 % 256)) }
+// The colour of entry i.
+pub fn color_at(t: &[u32], i: usize) -> Color
+    ensures { result ≡ color_at t.now i }
 {
     let r = (word_of(t, i, 3) % 256) as u8;
     let g = (word_of(t, i, 4) % 256) as u8;
     let b = (word_of(t, i, 5) % 256) as u8;
-    PropertyValue::Shade(Color { r, g, b })
+    Color { r, g, b }
 }
 
 // Words j and j + 1 of entry i, as a range.
-fn range_of(t: &[u32], i: usize, j: usize) -> Range
+pub fn range_of(t: &[u32], i: usize, j: usize) -> Range
     requires { j < 7 }
     ensures { result ≡ range_at t.now i j }
 {

@@ -62,10 +62,10 @@ fn store_test(
 ) -> Result<(Cursor, Tally), Refusal>
     ensures { TestKept source c n (test_words (kind_number kind) key a b) tests.old tests.new result }
 {
-    match keep_test(tests, n, kind_number(kind), key, a, b) {
-        None => Err(refuse_reached(TABLE_FULL, TESTS, source, c)),
-        Some(m) => Ok((c, m)),
-    }
+    let m = keep_test(tests, n, kind_number(kind), key, a, b).ok_or(refuse_reached(
+        TABLE_FULL, TESTS, source, c,
+    ))?;
+    Ok((c, m))
 }
 
 // The test of a key with the number x, behind its bracket.
@@ -81,10 +81,8 @@ fn store_number_test(
 ) -> Result<(Cursor, Tally), Refusal>
     ensures { NumberTestKept source c n (kind_number kind) key x tests.old numbers.old tests.new numbers.new result }
 {
-    match keep_number(numbers, n, x) {
-        None => Err(refuse_reached(TABLE_FULL, NUMBERS, source, c)),
-        Some(m) => store_test(source, c, m, kind, key, m.number, 0, tests),
-    }
+    let m = keep_number(numbers, n, x).ok_or(refuse_reached(TABLE_FULL, NUMBERS, source, c))?;
+    store_test(source, c, m, kind, key, m.number, 0, tests)
 }
 
 // Behind the word b of an = or != test.

@@ -78,16 +78,12 @@ fn starts_number(ch: u32) -> bool
 fn read_other(s: &[u8], idx: usize, ch: u32, c: Cursor) -> Reading
     ensures { result ≡ read_other s.now idx ch c }
 {
-    if ch == 45 {
-        return read_after_minus(s, idx, c);
+    match ch {
+        45 => read_after_minus(s, idx, c),
+        124 => read_zoom_range(s, c),
+        35 => read_color(s, c),
+        _ => Err(lexer_error(SYMBOL, c)),
     }
-    if ch == 124 {
-        return read_zoom_range(s, c);
-    }
-    if ch == 35 {
-        return read_color(s, c);
-    }
-    Err(lexer_error(SYMBOL, c))
 }
 
 fn read_after_minus(s: &[u8], idx: usize, c: Cursor) -> Reading

@@ -13,13 +13,11 @@ use token_kind::{Reading, Token, lexer_error};
 pub fn read_number(s: &[u8], first: u32, c: Cursor) -> Reading
     ensures { result ≡ read_number s.now first c }
 {
-    if first == 45 {
-        return read_signed(s, true, c);
+    match first {
+        45 => read_signed(s, true, c),
+        43 => read_signed(s, false, c),
+        _ => read_unsigned(s, false, first, c),
     }
-    if first == 43 {
-        return read_signed(s, false, c);
-    }
-    read_unsigned(s, false, first, c)
 }
 
 fn read_signed(s: &[u8], minus: bool, c: Cursor) -> Reading

@@ -1,11 +1,13 @@
+use mathlib.Core.Path.{◌∙◌}
+use Rattle.base.proofs.Options.{handed_on, or_some, or_none, or_err}
 use native.Mathlib.Omega.{arith}
 use Rattle.base.specs.Choice.{via_with}
 use Rattle.keep.specs.Answers.{Reads, refuses, done}
 use Rattle.rules.proofs.RuleLaws.{no_room_rule, room_rule}
 use Rattle.rules.proofs.store_rule.Goals as goal
 
-pub returns-in-None : goal.returns-in-None
-returns-in-None c = λ bundle τ ss ps. no_room_rule (Reads _ _ _ _ _) _ c.args.source c.args.c _ _ (via_with c.keep_rule.ensures c.in-None.is) (refuses c.refuse_reached.ensures)
+pub returns-in_err-m : goal.returns-in_err-m
+returns-in_err-m c = rw (handed_on _ c.from_residual.ensures) (λ bundle τ ss ps. no_room_rule (Reads _ _ _ _ _) _ c.args.source c.args.c _ _ (via_with c.keep_rule.ensures (or_none c.ok_or.ensures.ok_part c.in_err-m.was)) (refuses (or_err _ c.ok_or.ensures.value c.in_err-m.was ∙ c.refuse_reached.ensures)))
 
-pub returns-in-Some : goal.returns-in-Some
-returns-in-Some c = λ bundle τ ss ps. room_rule (Reads _ _ _ _ _) _ c.args.source c.args.c _ _ (via_with c.keep_rule.ensures c.in-Some.is) (done _ (omega arith))
+pub returns : goal.returns
+returns c = λ bundle τ ss ps. room_rule (Reads _ _ _ _ _) _ c.args.source c.args.c _ _ (via_with c.keep_rule.ensures (or_some c.ok_or.ensures.ok_part c.in_ok-m.was)) (done _ (omega arith))

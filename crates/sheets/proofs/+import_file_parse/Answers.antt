@@ -1,13 +1,13 @@
 use native.Mathlib.Omega.{arith}
-use mathlib.Core.Path.{refl}
+use mathlib.Core.Path.{refl, ◌∙◌}
 use borrow.Author.Rules.{rules}
 use Rattle.base.specs.Choice.{via}
-use Rattle.base.proofs.Options.{handed_on, ok_is}
+use Rattle.base.proofs.Options.{handed_on, ok_is, or_some, or_none, or_err}
 use Rattle.sheets.proofs.SheetLaws.{import_another, import_missing, import_deep, import_stopped, import_ended, parse_starts, parse_bad, parse_ends, import_less, import_stops, import_on, color_less, color_stops, color_on, rule_less, rule_stops, rule_on}
 use Rattle.sheets.proofs.+import_file_parse.Goals as goal
 
 pub import_file-returns-then-depth-eq0 : goal.import_file-returns-then-depth-eq0
-import_file-returns-then-depth-eq0 t c = import_deep _ _ c.args.name _ _ _ _ (via c.expect_semicolon.ensures c.in_ok-d.was) c.part.ensures (via c.find_text.ensures c.in-Some.is) c.if-depth-eq0.true c.refuse_reached-then-depth-eq0.ensures
+import_file-returns-then-depth-eq0 t c = import_deep _ _ c.args.name _ _ _ _ (via c.expect_semicolon.ensures c.in_ok-d.was) c.part.ensures (via c.find_text.ensures (or_some c.ok_or.ensures.ok_part c.in_ok-number.was)) c.if-depth-eq0.true c.refuse_reached-then-depth-eq0.ensures
 
 pub import_file-overflow_sub-depth : goal.import_file-overflow_sub-depth
 import_file-overflow_sub-depth t c = omega (arith, c.if-depth-eq0.false)
@@ -18,14 +18,14 @@ import_file-parse-requires t c = (omega (arith, c.decreases, c.if-depth-eq0.fals
 pub import_file-returns-in_err-d : goal.import_file-returns-in_err-d
 import_file-returns-in_err-d t c = rw (handed_on _ c.from_residual.ensures) (import_another _ _ c.args.name _ _ _ _ (via c.expect_semicolon.ensures c.in_err-d.was))
 
-pub import_file-returns-in-None : goal.import_file-returns-in-None
-import_file-returns-in-None t c = import_missing _ _ c.args.name _ _ _ _ (via c.expect_semicolon.ensures c.in_ok-d.was) c.part.ensures (via c.find_text.ensures c.in-None.is) c.refuse_reached.ensures
+pub import_file-returns-in_err-number : goal.import_file-returns-in_err-number
+import_file-returns-in_err-number t c = rw (handed_on _ c.from_residual-in_err-number.ensures) (import_missing _ _ c.args.name _ _ _ _ (via c.expect_semicolon.ensures c.in_ok-d.was) c.part.ensures (via c.find_text.ensures (or_none c.ok_or.ensures.ok_part c.in_err-number.was)) (or_err _ c.ok_or.ensures.value c.in_err-number.was ∙ c.refuse_reached.ensures))
 
-pub import_file-returns-in_err-m-in-Some : goal.import_file-returns-in_err-m-in-Some
-import_file-returns-in_err-m-in-Some t c = rw (handed_on _ c.from_residual-in_err-m-in-Some.ensures) (import_stopped _ _ c.args.name _ _ _ _ (via c.expect_semicolon.ensures c.in_ok-d.was) c.part.ensures (via c.find_text.ensures c.in-Some.is) c.if-depth-eq0.false c.parse.ensures c.in_err-m-in-Some.was)
+pub import_file-returns-in_err-m : goal.import_file-returns-in_err-m
+import_file-returns-in_err-m t c = rw (handed_on _ c.from_residual-in_err-m.ensures) (import_stopped _ _ c.args.name _ _ _ _ (via c.expect_semicolon.ensures c.in_ok-d.was) c.part.ensures (via c.find_text.ensures (or_some c.ok_or.ensures.ok_part c.in_ok-number.was)) c.if-depth-eq0.false c.parse.ensures c.in_err-m.was)
 
-pub import_file-returns-in_ok-m-in-Some : goal.import_file-returns-in_ok-m-in-Some
-import_file-returns-in_ok-m-in-Some t c = import_ended _ _ c.args.name _ _ _ _ (via c.expect_semicolon.ensures c.in_ok-d.was) c.part.ensures (via c.find_text.ensures c.in-Some.is) c.if-depth-eq0.false c.parse.ensures c.in_ok-m-in-Some.was
+pub import_file-returns : goal.import_file-returns
+import_file-returns t c = import_ended _ _ c.args.name _ _ _ _ (via c.expect_semicolon.ensures c.in_ok-d.was) c.part.ensures (via c.find_text.ensures (or_some c.ok_or.ensures.ok_part c.in_ok-number.was)) c.if-depth-eq0.false c.parse.ensures c.in_ok-m.was
 
 pub parse-loop-statement-init : goal.parse-loop-statement-init
 parse-loop-statement-init t c = (parse_starts _ _ _ _ c.new-at.ensures, (refl, refl, refl, refl, refl, refl))

@@ -1,3 +1,5 @@
+use mathlib.Core.Path.{◌∙◌}
+use Rattle.base.proofs.Options.{handed_on, or_some, or_none, or_err}
 use Rattle.keep.proofs.Laws.{room_number, no_room_number}
 use Rattle.properties.specs.Answers.{Values, bad_value, good_value}
 use Rattle.base.specs.Choice.{via_with}
@@ -5,8 +7,8 @@ use native.Mathlib.Omega.{arith}
 use mathlib.Core.Path.{refl}
 use Rattle.properties.proofs.eval.store_delta.Goals as goal
 
-pub returns-in-None : goal.returns-in-None
-returns-in-None c = λ bundle τ. no_room_number (Values _ _ _ _ _) _ c.args.source _ c.args.c _ _ (via_with c.keep_number.ensures c.in-None.is) (bad_value c.refuse_reached.ensures)
+pub returns-in_err-m : goal.returns-in_err-m
+returns-in_err-m c = rw (handed_on _ c.from_residual.ensures) (λ bundle τ. no_room_number (Values _ _ _ _ _) _ c.args.source _ c.args.c _ _ (via_with c.keep_number.ensures (or_none c.ok_or.ensures.ok_part c.in_err-m.was)) (bad_value (or_err _ c.ok_or.ensures.value c.in_err-m.was ∙ c.refuse_reached.ensures)))
 
-pub returns-in-Some : goal.returns-in-Some
-returns-in-Some c = λ bundle τ. room_number (Values _ _ _ _ _) _ c.args.source _ c.args.c _ _ (via_with c.keep_number.ensures c.in-Some.is) (good_value _ _ (omega arith) refl)
+pub returns : goal.returns
+returns c = λ bundle τ. room_number (Values _ _ _ _ _) _ c.args.source _ c.args.c _ _ (via_with c.keep_number.ensures (or_some c.ok_or.ensures.ok_part c.in_ok-m.was)) (good_value _ _ (omega arith) refl)
