@@ -1,19 +1,19 @@
 -- The layout of a bundle, as the code tests it, and reading as the inverse of writing.
-use Prim.Native.Nat.{ℕ, zero, suc, ◌+◌, ◌-◌, ◌<◌, ◌≤◌}
+use Prim.Native.Nat.{ℕ, ◌<◌, ◌≤◌}
 use native.Mathlib.Omega.{arith}
-use mathlib.Core.Path.{◌≡◌, refl, sym, ◌∙◌, ap, ap₂, subst}
+use mathlib.Core.Path.{◌≡◌, refl, sym, ◌∙◌, ap, ap₂}
 use mathlib.Core.Bool.{Bool, true, false}
-use mathlib.Core.List.{List, [], ◌∷◌, ◌++◌, map, append-nil}
+use mathlib.Core.List.{[], ◌++◌, map, append-nil}
 use lib.Dec.{eqb, ltb}
 use lib.ListN.{length, drop, length-append, length-drop, length-map}
 use borrow.Author.Tests.{eq-eqb, ne_eqb, lt-ltb, le-ltb, eqb-true, eqb-false, ltb-false}
 use Rattle.base.specs.Bytes.{Bytes, AllBytes}
 use Rattle.base.specs.Choice.{pick, by-test, clash}
-use Rattle.base.specs.Map.{Entry, Map, key_of}
+use Rattle.base.specs.Map.{Map, key_of}
 use Rattle.base.specs.Refusal.{refusal}
 use Rattle.base.specs.declared.refusal.Refusal.{Refusal}
 use Rattle.group.specs.Number.{number_at, group_of}
-use Rattle.group.specs.Pair.{pairs_at, skip_of, entries_at, named, all_utf8, sized_bytes, pair_bytes, map_bytes}
+use Rattle.group.specs.Pair.{pairs_at, skip_of, entries_at, named, all_utf8, map_bytes}
 use Rattle.group.proofs.Numbers.{number_read_at, number_written_at, number_most}
 use Rattle.group.proofs.Pairs.{AllShort, all_short, pairs_read, pairs_written, pairs_all, skip_within}
 use Rattle.bundle.specs.Bundle.{count_of, first_at, ranges_of, texts_of, good_names, is_bundle, check_of, bundle_bytes, IsTexts}

@@ -105,17 +105,7 @@ fn good_name(s: &[u8], name: &[u8], at: usize, count: usize) -> bool
 fn is_named(s: &[u8], at: usize, count: usize, name: &[u8]) -> bool
     ensures { result ≡ member name.now (map key_of (entries_at count s.now at)) }
 {
-    let mut place = at;
-    for _ in 0..count {
-        let Some((a, b)) = group::pair_at(s, place) else {
-            return false;
-        };
-        if base::same_bytes(name, base::part(s, a)) {
-            return true;
-        }
-        place = b.to;
-    }
-    false
+    find_from(s, at, count, name).is_some()
 }
 
 // The first of so many texts that has a name; they are numbered from 0.
