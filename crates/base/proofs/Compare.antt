@@ -1,14 +1,18 @@
--- Equality and order of byte strings: their laws, and one step of each as the loops take it.
-use Prim.Native.Nat.{ℕ, ◌+◌, ◌-◌, ◌<◌, ◌≤◌}
-use native.Mathlib.Numerals.{add-one}
+-- Equality and order of byte strings: their laws, and how the library states them.
+use Prim.Native.Nat.{ℕ, ◌-◌, ◌<◌, ◌≤◌}
 use native.Mathlib.Omega.{arith}
 use mathlib.Core.Path.{◌≡◌, refl, sym, ◌∙◌, ap, ap₂, subst}
-use mathlib.Core.Bool.{true, false}
+use mathlib.Core.Bool.{Bool, true, false, ◌&&◌, ◌||◌}
 use mathlib.Core.List.{[], ◌∷◌}
-use lib.Dec.{T, eqb, eqb→eq, eqb_refl}
+use lib.Dec.{T, eqb, ltb, eqb→eq, eqb_refl}
+use lib.Pointwise.{pointwise}
+use Rattle.std.specs.Cmp.Lexicographic.{slice_partial_cmp}
+use Rattle.std.specs.Ordering.{nat_cmp, is_some_and, is_lt, partial_ordering_then}
+use Rattle.std.specs.declared.cmp.Ordering.{Ordering}
+use Rattle.std.specs.declared.cmp.Ordering.TheVariants.{Less, Equal, Greater}
+use Rattle.std.specs.Prelude.{Option, Some, cond}
 use lib.ListN.{length, get_or, take, drop, drop_of_length-le}
-use lib.Seq.{drop-cons, take_all}
-use borrow.Author.Tests.{eq-eqb, ne_eqb, lt-ltb, le-ltb}
+use lib.Seq.{take_all}
 use Rattle.base.specs.Choice.{by-test, clash, holds}
 use Rattle.base.specs.Bytes.{Bytes, same, precedes, between}
 
@@ -39,50 +43,30 @@ same_false a b h = by-test (same a b) (λ p. absurd (h (same_true a b p))) (λ p
 pub same_lengths : (a b : Bytes) → (length a ≡ length b → ⊥) → same a b ≡ false
 same_lengths a b h = same_false a b (λ e. h (ap length e))
 
-module _ (a b : Bytes) (i : ℕ) where
-  pub same_ends : length a ≤ i → length b ≤ i → same (drop i a) (drop i b) ≡ true
-  unfolding same
-  same_ends p q = rw (drop_of_length-le a p, drop_of_length-le b q)
+-- the library's comparisons of slices are these
+pub same_slices : (a b : Bytes) → pointwise eqb a b ≡ same a b
+unfolding same
+same_slices [] [] = refl
+same_slices [] (y ∷ ys) = refl
+same_slices (x ∷ xs) [] = refl
+same_slices (x ∷ xs) (y ∷ ys) = ap (λ t. eqb x y && t) (same_slices xs ys)
 
-  module _ (p : i < length a) (q : i < length b) where
-    pub same_differ : (get_or a i 0 ≡ get_or b i 0 → ⊥) → same (drop i a) (drop i b) ≡ false
-    unfolding same
-    same_differ h = simp (drop-cons a i 0 p, drop-cons b i 0 q, ne_eqb _ _ h)
+first_less :
+    (less equal : Bool) (rest : Option Ordering)
+    → is_some_and is_lt (partial_ordering_then (Some (cond less Less (cond equal Equal Greater))) rest) ≡ (less || (equal && is_some_and is_lt rest))
+first_less true equal rest = refl
+first_less false true rest = refl
+first_less false false rest = refl
 
-    pub same_next : get_or a i 0 ≡ get_or b i 0 → same (drop i a) (drop i b) ≡ same (drop (i + 1) a) (drop (i + 1) b)
-    unfolding same
-    same_next h = simp (add-one, drop-cons a i 0 p, drop-cons b i 0 q, eq-eqb _ _ h)
-
-    pub precedes_less : get_or a i 0 < get_or b i 0 → precedes (drop i a) (drop i b) ≡ true
-    unfolding precedes
-    precedes_less h = simp (drop-cons a i 0 p, drop-cons b i 0 q, lt-ltb _ _ h)
-
-    pub precedes_more : get_or b i 0 < get_or a i 0 → precedes (drop i a) (drop i b) ≡ false
-    unfolding precedes
-    precedes_more h =
-        let n : get_or a i 0 ≡ get_or b i 0 → ⊥ = λ e. omega arith in
-        let m : get_or b i 0 ≤ get_or a i 0 = omega arith in
-        simp (drop-cons a i 0 p, drop-cons b i 0 q, le-ltb _ _ m, ne_eqb _ _ n)
-
-    pub precedes_next :
-        get_or a i 0 ≡ get_or b i 0
-        → precedes (drop i a) (drop i b) ≡ precedes (drop (i + 1) a) (drop (i + 1) b)
-    unfolding precedes
-    precedes_next h =
-        let m : get_or b i 0 ≤ get_or a i 0 = omega arith in
-        simp (add-one, drop-cons a i 0 p, drop-cons b i 0 q, le-ltb _ _ m, eq-eqb _ _ h)
-
-  pub precedes_none : length b ≤ i → precedes (drop i a) (drop i b) ≡ false
-  unfolding precedes
-  precedes_none q = rw (drop_of_length-le b q) (nothing (drop i a))
-    where
-      nothing : (xs : Bytes) → precedes xs [] ≡ false
-      nothing [] = refl
-      nothing (x ∷ xs) = refl
-
-  pub precedes_short : length a ≤ i → i < length b → precedes (drop i a) (drop i b) ≡ true
-  unfolding precedes
-  precedes_short p q = rw (drop_of_length-le a p, drop-cons b i 0 q)
+pub precedes_slices :
+    (a b : Bytes) → is_some_and is_lt (slice_partial_cmp (λ x y. Some (nat_cmp x y)) a b) ≡ precedes a b
+unfolding precedes
+precedes_slices [] [] = refl
+precedes_slices [] (y ∷ ys) = refl
+precedes_slices (x ∷ xs) [] = refl
+precedes_slices (x ∷ xs) (y ∷ ys) =
+    first_less (ltb x y) (eqb x y) (slice_partial_cmp (λ x y. Some (nat_cmp x y)) xs ys)
+    ∙ ap (λ t. ltb x y || (eqb x y && t)) (precedes_slices xs ys)
 
 -- a part that ends past the end is the rest, and one that ends before it starts is nothing
 pub between_past : (from to : ℕ) (s : Bytes) → length s < to → between from to s ≡ drop from s

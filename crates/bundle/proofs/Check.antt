@@ -17,9 +17,15 @@ use Rattle.group.specs.Pair.{pairs_at, skip_of, entries_at, named, all_utf8, map
 use Rattle.group.proofs.Numbers.{number_read_at, number_written_at, number_most}
 use Rattle.group.proofs.Pairs.{AllShort, all_short, pairs_read, pairs_written, pairs_all, skip_within}
 use Rattle.bundle.specs.Bundle.{count_of, first_at, ranges_of, texts_of, good_names, is_bundle, check_of, bundle_bytes, IsTexts}
+use Rattle.std.specs.Option.{option_eq}
 use Rattle.std.specs.Prelude.{Option, Some, None, Ok, Err}
 use Rattle.base.specs.Option.{on_option}
 use Rattle.base.proofs.Options.{by_option, by_option2}
+
+-- whether an option is a number, as the library tests it
+found_there : (o : Option ℕ) (n : ℕ) → option_eq eqb o (Some n) ≡ true → o ≡ Some n
+found_there None n e = clash e refl
+found_there (Some x) n e = ap Some (eqb-true x n e)
 
 module _ (s : Bytes) where
   pub bundle_long : 1048576 < length s → false ≡ is_bundle s
@@ -57,6 +63,17 @@ module _ (s : Bytes) where
           g
           ∙ ap₂ (λ (i j : ℕ). good_names (map key_of (entries_at i s j))) p q
           ∙ (rw (le-ltb _ _ l, some_texts, placed (Some end) e, eq-eqb _ _ d))
+
+      module _ (o : Option ℕ) (t : Bool) (w : o ≡ skip_of n s f) (e : t ≡ option_eq eqb o (Some (length s))) where
+        pub bundle_there : (r : Bool) → t ≡ true → r ≡ good_names (map key_of (entries_at n s f)) → r ≡ is_bundle s
+        bundle_there r h g = bundle_names (length s) r (sym w ∙ found_there o (length s) (sym e ∙ h)) refl g
+
+        pub bundle_elsewhere : t ≡ false → t ≡ is_bundle s
+        bundle_elsewhere h =
+            h
+            ∙ by_option o
+            (λ x. bundle_cut (sym w ∙ x))
+            (λ end x. bundle_over end (sym w ∙ x) (λ d. clash (ap (λ y. option_eq eqb y (Some (length s))) x ∙ eq-eqb end (length s) d) (sym e ∙ h)))
 
 module _ (s : Bytes) (t : Bool) (e : t ≡ is_bundle s) where
   pub check_layout : (r : Refusal) → t ≡ false → r ≡ refusal 1 0 0 0 0 → Err r ≡ check_of s

@@ -1,38 +1,37 @@
 -- Names of texts, as the code goes through them.
 use Prim.Native.Nat.{ℕ, suc, ◌+◌, ◌-◌, ◌<◌, ◌≤◌}
 use native.Mathlib.Omega.{arith}
-use mathlib.Core.Path.{◌≡◌, sym, ◌∙◌, ap}
+use mathlib.Core.Path.{◌≡◌, refl, sym, ◌∙◌, ap}
 use mathlib.Core.Bool.{Bool, true, false}
-use mathlib.Core.List.{[], ◌∷◌, map}
+use mathlib.Core.List.{List, [], ◌∷◌, map}
 use Rattle.base.specs.Bytes.{Bytes, same, within}
-use Rattle.base.specs.Choice.{pick}
+use Rattle.base.specs.Choice.{pick, by-test}
 use Rattle.base.specs.Map.{Entry, Map, key_of, member}
 use Rattle.base.specs.declared.Range.{Range}
-use Rattle.group.specs.Pair.{ranges, pair_at, pairs_at}
+use Rattle.group.specs.Pair.{Ranges, ranges, pair_at, pairs_at, named}
 use Rattle.bundle.specs.Bundle.{good_name, good_names, find_in}
-use Rattle.std.specs.Prelude.{Some, None}
+use Rattle.std.specs.Prelude.{Some, None, is_some}
 use Rattle.base.specs.Option.{on_option, on_option2}
+
+-- a name is found just where it is a key
+pub found_named :
+    (s name : Bytes) (k : ℕ) (ps : List Ranges)
+    → is_some (find_in s name k ps) ≡ member name (map key_of (map (named s) ps))
+unfolding find_in member pick
+found_named s name k [] = refl
+found_named s name k (p ∷ ps) =
+    by-test (same name (within p.first s))
+    (λ e. rw e)
+    (λ e. rw e (found_named s name (k + 1) ps))
 
 -- no text further on
 module _ (m : Map Bytes) (e : m ≡ []) where
-  pub named_end : (x : Bytes) → false ≡ member x (map key_of m)
-  unfolding member
-  named_end x = rw e
-
   pub good_end : true ≡ good_names (map key_of m)
   unfolding good_names
   good_end = rw e
 
 -- one text further on
 module _ (m m' : Map Bytes) (a : Entry Bytes) (e : m ≡ a ∷ m') where
-  pub named_here : (x y : Bytes) (r : Bool) → y ≡ a.key → r ≡ same x y → r ≡ true → true ≡ member x (map key_of m)
-  unfolding member
-  named_here x y r p q t = let h : same x a.key ≡ true = ap (same x) (sym p) ∙ sym q ∙ t in rw (e, h)
-
-  pub named_later : (x y : Bytes) (r : Bool) → y ≡ a.key → r ≡ same x y → r ≡ false → member x (map key_of m') ≡ member x (map key_of m)
-  unfolding member
-  named_later x y r p q t = let h : same x a.key ≡ false = ap (same x) (sym p) ∙ sym q ∙ t in rw (e, h)
-
   module _ (y : Bytes) (r : Bool) (p : y ≡ a.key) (q : r ≡ good_name y (map key_of m')) where
     pub good_not : r ≡ false → false ≡ good_names (map key_of m)
     unfolding good_names pick

@@ -73,15 +73,8 @@ fn is_bundle(bundle: &[u8]) -> bool
         return false;
     }
     let first = first_text(bundle);
-    match group::skip_pairs(bundle, first, count) {
-        None => false,
-        Some(end) => {
-            if end == bundle.len() {
-                return good_names(bundle, first, count);
-            }
-            false
-        }
-    }
+    group::skip_pairs(bundle, first, count) == Some(bundle.len())
+        && good_names(bundle, first, count)
 }
 
 // Whether names have 1 to 255 bytes and no two are equal.
@@ -105,30 +98,14 @@ fn good_names(s: &[u8], at: usize, count: usize) -> bool
 fn good_name(s: &[u8], name: &[u8], at: usize, count: usize) -> bool
     ensures { result ≡ good_name name.now (map key_of (entries_at count s.now at)) }
 {
-    if name.len() == 0 {
-        return false;
-    }
-    if 255 < name.len() {
-        return false;
-    }
-    !is_named(s, at, count, name)
+    1 <= name.len() && name.len() <= 255 && !is_named(s, at, count, name)
 }
 
 // Whether one of so many texts has a name.
 fn is_named(s: &[u8], at: usize, count: usize, name: &[u8]) -> bool
     ensures { result ≡ member name.now (map key_of (entries_at count s.now at)) }
 {
-    let mut place = at;
-    for _ in 0..count {
-        let Some((a, b)) = group::pair_at(s, place) else {
-            return false;
-        };
-        if base::same_bytes(name, base::part(s, a)) {
-            return true;
-        }
-        place = b.to;
-    }
-    false
+    find_from(s, at, count, name).is_some()
 }
 
 // The first of so many texts that has a name; they are numbered from 0.

@@ -2,7 +2,7 @@
 use Rattle.std.proofs.Common.{◌≡◌, ℕ, ◌+◌, ◌-◌, ◌*◌, ◌/◌, ◌%◌, ◌^◌, ◌<◌, ◌≤◌, min, Bool, true, false, not, ◌&&◌, T, eqb, ltb, leb, ℤ, pos, sym, refl, ap, ◌∙◌, subst, div-lt_iff_lt-mul, div-add-mod', le-div_iff_mul-le, mul-one, mul_right_comm, arith, le→leb, ltb-false, ltb-true, lt-ltb, eq-eqb, ne_eqb, eqb-true, le-leb}
 use native.Mathlib.Nat.{eq_of_mul-eq-mul_right}
 use mathlib.Core.Bool.{and-true, and-false}
-use lib.Ieee.{Float, nan, inf, fin, binary64, up, down, size, round, neg, lt, eq, ne, of_int, to_unsigned, whole, in_float, in_unsigned, fits, is_nan, of_bits, to_bits}
+use lib.Ieee.{Float, nan, inf, fin, binary64, up, down, size, round, neg, lt, eq, of_int, to_unsigned, whole, in_float, in_unsigned, fits, is_nan, of_bits, to_bits}
 use lib.Ieee.Exact.{HasValue}
 use lib.Ieee.Back.{round_whole, Float-back_unsigned}
 use lib.Ieee.Bits.{to_bits-lt}
@@ -208,15 +208,14 @@ module _ (x a : Float) (f : T (fits binary64 x)) (A : a ≡ unsigned_of x) where
           (least (m * up e) (down e) (down_pos e) (above_most (m * up e) (down e) h))
           (and-false (whole binary64 (fin false m e)))
 
-pub whole_nan : (x : Float) → ne x x ≡ true → false ≡ is_whole x
-unfolding is_whole whole
-whole_nan x h = rw (lib.Ieee.Compare.differs_from_itself x (subst T (sym h) tt), unsigned_nan)
+pub whole_nan : (x : Float) → true ≡ is_nan x → false ≡ is_whole x
+unfolding is_whole whole is_nan
+whole_nan nan h = rw unsigned_nan
+whole_nan (inf s) h = clash (sym h) refl
+whole_nan (fin s m e) h = clash (sym h) refl
 
-pub not_nan : (x : Float) → ne x x ≡ false → T (not (is_nan x))
-unfolding ne eq is_nan
-not_nan nan h = clash refl h
-not_nan (inf s) h = tt
-not_nan (fin s m e) h = tt
+pub not_nan : (x : Float) → false ≡ is_nan x → T (not (is_nan x))
+not_nan x h = subst (λ b. T (not b)) h tt
 
 pub whole_number_lem : (x : Float) → is_whole x ≡ true → T (not (is_nan x))
 unfolding is_whole whole is_nan

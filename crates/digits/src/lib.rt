@@ -11,7 +11,7 @@ use base::Range;
 pub fn is_whole(x: f64) -> bool
     ensures { result ≡ is_whole x }
 {
-    if x != x {
+    if x.is_nan() {
         return false;
     }
     let a = without_sign(x);

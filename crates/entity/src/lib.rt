@@ -1,7 +1,7 @@
 // The entity: its layout and its UTF-8, alone and in a stream.
 #![tactic(auto)]
 
-ghost use Rattle.std.specs.Prelude.{◌≡◌, map, ◌-◌};
+ghost use Rattle.std.specs.Prelude.{◌≡◌, map};
 ghost use Rattle.base.specs.Bytes.{within};
 ghost use Rattle.base.specs.Map.{key_of};
 ghost use Rattle.group.specs.Pair.{entries_at};
@@ -135,20 +135,13 @@ fn tags_at(s: &[u8], at: usize, kind: u8, id: u64, from: usize) -> Option<Entity
 fn closed(s: &[u8], at: usize, e: EntityRange) -> Option<EntityRange>
     ensures { result ≡ closed_of s.now at e }
 {
-    if 65536 < size(at, e.end) {
+    if 65536 < e.end.saturating_sub(at) {
         return None;
     }
     if keys_rise(s, e.tags, e.count) {
         return Some(e);
     }
     None
-}
-
-// How far a place is behind another.
-fn size(from: usize, to: usize) -> usize
-    ensures { result ≡ to - from }
-{
-    if from <= to { to - from } else { 0 }
 }
 
 // Whether the keys of so many tags rise strictly, bytewise.

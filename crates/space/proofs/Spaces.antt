@@ -5,9 +5,9 @@ use mathlib.Core.Path.{◌≡◌, refl, sym, ◌∙◌}
 use mathlib.Core.Bool.{true, false, ◌||◌}
 use mathlib.Core.List.{List, [], ◌∷◌, ◌++◌}
 use lib.Dec.{eqb, ltb}
-use borrow.Author.Tests.{ne_eqb, ltb-true, ltb-false, eqb-false}
+use borrow.Author.Tests.{le-ltb, ne_eqb, ltb-true, ltb-false, eqb-false}
 use Rattle.base.specs.Choice.{pick, by-test}
-use Rattle.space.specs.Space.{among, is_white_space, Run, rising, all_runs}
+use Rattle.space.specs.Space.{among, is_white_space, Run, rising, general_runs, all_runs}
 
 -- n numbers from k on
 up_from : ℕ → ℕ → List ℕ
@@ -84,3 +84,23 @@ white_space_runs k =
     (next (omega arith) (omega arith) (next (omega arith) (omega arith) (next (omega arith) (omega arith)
     (next (omega arith) (omega arith) (next (omega arith) (omega arith) (next (omega arith) (omega arith)
     (next (omega arith) (omega arith) none))))))))))
+
+-- past U+200A the last runs decide
+pub white_space_beyond : (k : ℕ) → 0x200A < k → rising general_runs k ≡ is_white_space k
+unfolding rising pick
+white_space_beyond k h =
+    let p : rising all_runs k ≡ rising general_runs k = simp (
+      le-ltb k 0x9 (omega arith),
+      le-ltb k 0xE (omega arith),
+      le-ltb k 0x20 (omega arith),
+      le-ltb k 0x21 (omega arith),
+      le-ltb k 0x85 (omega arith),
+      le-ltb k 0x86 (omega arith),
+      le-ltb k 0xA0 (omega arith),
+      le-ltb k 0xA1 (omega arith),
+      le-ltb k 0x1680 (omega arith),
+      le-ltb k 0x1681 (omega arith),
+      le-ltb k 0x2000 (omega arith),
+      le-ltb k 0x200B (omega arith),
+    ) in
+    sym p ∙ white_space_runs k

@@ -101,7 +101,7 @@ fn unsigned_number(t: &[u8], minus: bool) -> TagNumber
         return TagNumber::Reads(infinite(minus));
     }
     if is_word(t, b"nan") {
-        return TagNumber::Reads(0.0 / 0.0);
+        return TagNumber::Reads(f64::NAN);
     }
     decimal_number(t, minus)
 }
@@ -110,7 +110,11 @@ fn unsigned_number(t: &[u8], minus: bool) -> TagNumber
 fn infinite(minus: bool) -> f64
     ensures { result ≡ inf minus }
 {
-    if minus { -1.0 / 0.0 } else { 1.0 / 0.0 }
+    if minus {
+        f64::NEG_INFINITY
+    } else {
+        f64::INFINITY
+    }
 }
 
 // Whether a text is a word, in any case.
@@ -131,13 +135,7 @@ fn is_word(t: &[u8], w: &[u8]) -> bool
 fn lower(b: u8) -> u8
     ensures { result ≡ lower_case b }
 {
-    if b < 65 {
-        return b;
-    }
-    if 90 < b {
-        return b;
-    }
-    b + 32
+    b.to_ascii_lowercase()
 }
 
 // Digits, a dot and digits, and an exponent.
@@ -261,7 +259,7 @@ fn after_sign(v: &[u8]) -> &[u8]
 fn is_digit(b: u8) -> bool
     ensures { result ≡ is_digit b }
 {
-    48 <= b && b <= 57
+    b.is_ascii_digit()
 }
 
 // How many digits stand first.

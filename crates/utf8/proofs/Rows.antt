@@ -2,7 +2,7 @@
 use Prim.Native.Nat.{ℕ, suc, ◌+◌, ◌<◌, ◌≤◌}
 use native.Mathlib.Omega.{arith}
 use mathlib.Core.Path.{◌≡◌, refl, sym, ◌∙◌, ap}
-use mathlib.Core.Bool.{Bool, true, false, ◌&&◌}
+use mathlib.Core.Bool.{true, false, ◌&&◌}
 use mathlib.Core.List.{List, [], ◌∷◌, Memᴰ}
 use lib.Dec.{leb, leb-zero}
 use lib.ListN.{length, get_or, drop, length-drop, drop_of_length-le}
@@ -13,19 +13,6 @@ use Rattle.base.specs.Choice.{pick, by-test, clash, and_left, and_right}
 use Rattle.utf8.specs.Utf8.{Span, span, fits, gathered, by_row, well_formed, char_of, char_at, decode_of}
 use Rattle.utf8.specs.declared.Char.{Char}
 use Rattle.utf8.specs.declared.Char.TheVariants.{Bad, End, Code}
-
--- tests joined by "and", one after another
-pub and_next : (x y : Bool) {r : Bool} → x ≡ true → r ≡ y → r ≡ (x && y)
-and_next true y e h = h
-and_next false y e h = clash e refl
-
-pub and_end : (x : Bool) {r : Bool} → r ≡ x → r ≡ (x && true)
-and_end true h = h
-and_end false h = h
-
-pub and_stop : (x y : Bool) → x ≡ false → false ≡ (x && y)
-and_stop true y e = clash refl e
-and_stop false y e = refl
 
 -- the row of one byte
 pub one_fits : (a : ℕ) → a ≤ 0x7F → fits (span 0 0x7F ∷ []) (a ∷ []) ≡ true

@@ -87,44 +87,29 @@ fn decode(a: u8, b: u8, c: u8, d: u8) -> Char
 fn in_span(low: u8, high: u8, b: u8) -> bool
     ensures { result ≡ leb low b && leb b high }
 {
-    if low <= b {
-        return b <= high;
-    }
-    false
+    low <= b && b <= high
 }
 
 // Rows of two, three and four bytes, whose last bytes are of any range 0x80 to 0xBF.
+#[tactic(auto, unfolding(crate::specs::Utf8::fits))]
 fn two(al: u8, ah: u8, a: u8, b: u8) -> bool
     ensures { result ≡ fits (span al ah ∷ tail ∷ []) (a ∷ b ∷ []) }
 {
-    if in_span(al, ah, a) {
-        return in_span(0x80, 0xBF, b);
-    }
-    false
+    in_span(al, ah, a) && in_span(0x80, 0xBF, b)
 }
 
+#[tactic(auto, unfolding(crate::specs::Utf8::fits))]
 fn three(al: u8, ah: u8, bl: u8, bh: u8, a: u8, b: u8, c: u8) -> bool
     ensures { result ≡ fits (span al ah ∷ span bl bh ∷ tail ∷ []) (a ∷ b ∷ c ∷ []) }
 {
-    if in_span(al, ah, a) {
-        if in_span(bl, bh, b) {
-            return in_span(0x80, 0xBF, c);
-        }
-    }
-    false
+    in_span(al, ah, a) && in_span(bl, bh, b) && in_span(0x80, 0xBF, c)
 }
 
+#[tactic(auto, unfolding(crate::specs::Utf8::fits))]
 fn four(al: u8, ah: u8, bl: u8, bh: u8, a: u8, b: u8, c: u8, d: u8) -> bool
     ensures { result ≡ fits (span al ah ∷ span bl bh ∷ tail ∷ tail ∷ []) (a ∷ b ∷ c ∷ d ∷ []) }
 {
-    if in_span(al, ah, a) {
-        if in_span(bl, bh, b) {
-            if in_span(0x80, 0xBF, c) {
-                return in_span(0x80, 0xBF, d);
-            }
-        }
-    }
-    false
+    in_span(al, ah, a) && in_span(bl, bh, b) && in_span(0x80, 0xBF, c) && in_span(0x80, 0xBF, d)
 }
 
 fn of_three(a: u8, b: u8, c: u8) -> u32

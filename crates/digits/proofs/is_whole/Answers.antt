@@ -2,11 +2,11 @@ use Rattle.std.proofs.Common.{T, sym, subst}
 use Rattle.digits.proofs.Wholes.{whole_nan, not_nan, whole_from, whole_to, whole_float, whole_same, whole_large}
 use Rattle.digits.proofs.is_whole.Goals as goal
 
-pub returns-then-x : goal.returns-then-x
-returns-then-x c = whole_nan c.args.x c.if-x.true
+pub returns-then-is_nan : goal.returns-then-is_nan
+returns-then-is_nan c = whole_nan c.args.x c.if-is_nan.ensures.value
 
 pub without_sign-a-requires : goal.without_sign-a-requires
-without_sign-a-requires c = not_nan c.args.x c.if-x.false
+without_sign-a-requires c = not_nan c.args.x c.if-is_nan.ensures.value
 
 pub truncating_f64_to_u64-requires : goal.truncating_f64_to_u64-requires
 truncating_f64_to_u64-requires c = record {
