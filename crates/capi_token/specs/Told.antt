@@ -40,10 +40,10 @@ use Rattle.capi_token.specs.declared.Told.{Told}
 
 -- a kind and its words, without a number
 abbrev pub payload : ℕ → ℕ → ℕ → ℕ → ℕ → Payload
-payload k a b c d = record { kind = k; a = a; b = b; c = c; d = d; number = zero_float }
+payload k a b c d = record { kind = k; words = a ∷ b ∷ c ∷ d ∷ []; number = zero_float }
 
 abbrev pub numbered : ℕ → Float → Payload
-numbered k x = record { kind = k; a = 0; b = 0; c = 0; d = 0; number = x }
+numbered k x = record { kind = k; words = 0 ∷ 0 ∷ 0 ∷ 0 ∷ []; number = x }
 
 abbrev pub ranged : ℕ → Range → Payload
 ranged k r = payload k r.from r.to 0 0
@@ -106,11 +106,7 @@ words t =
     ∷ flag t.end.newline
     ∷ t.line
     ∷ t.character
-    ∷ t.payload.a
-    ∷ t.payload.b
-    ∷ t.payload.c
-    ∷ t.payload.d
-    ∷ []
+    ∷ t.payload.words
 
 -- what an export answers and leaves in its lent slices
 pub record Answered (t : Told) (r : ℕ) (out out' : List ℕ) (number number' : List Float) : Type 0 where

@@ -27,12 +27,12 @@
 #![tactic(auto)]
 
 ghost use Rattle.std.specs.Prelude.{◌≡◌};
-ghost use Rattle.base.specs.Table.{stored};
 ghost use Rattle.cursor.specs.Cursor.{cursor};
 ghost use Rattle.token.specs.Step.{step_of};
 ghost use Rattle.capi_token.specs.Told.{Answered, told_step, told_token, ranged, flag, present, height, numbered, payload, words};
 
-use base::{Range, set_float, set_long};
+use answer_words::store_words;
+use base::{Range, set_float};
 use cursor::Cursor;
 use token::{Step, next_token};
 use token_kind::{LexerError, Token};
@@ -41,10 +41,7 @@ use token_kind::{LexerError, Token};
 #[derive(Clone, Copy)]
 pub struct Payload {
     pub kind: u64,
-    pub a: u64,
-    pub b: u64,
-    pub c: u64,
-    pub d: u64,
+    pub words: [u64; 4],
     pub number: f64,
 }
 
@@ -76,7 +73,7 @@ pub fn mapcss_next_token(
         newline,
     };
     let told = told_step(next_token(s, c));
-    store_words(out, told);
+    store_words(out, &words(told));
     let payload = told.payload;
     set_float(number, 0, payload.number);
     payload.kind
@@ -162,10 +159,7 @@ fn words_of(kind: u64, a: u64, b: u64, c: u64, d: u64) -> Payload
 {
     Payload {
         kind,
-        a,
-        b,
-        c,
-        d,
+        words: [a, b, c, d],
         number: 0.0,
     }
 }
@@ -175,10 +169,7 @@ fn numbered(kind: u64, number: f64) -> Payload
 {
     Payload {
         kind,
-        a: 0,
-        b: 0,
-        c: 0,
-        d: 0,
+        words: [0; 4],
         number,
     }
 }
@@ -201,19 +192,22 @@ fn flag(b: bool) -> u64
     u64::from(b)
 }
 
-fn store_words(out: &mut [u64], told: Told)
-    ensures { out.new ≡ stored out.old 0 (words told) }
+// The ten words in their order.
+fn words(told: Told) -> [u64; 10]
+    ensures { result ≡ words told }
 {
     let end = told.end;
-    let p = told.payload;
-    set_long(out, 0, end.at as u64);
-    set_long(out, 1, end.line as u64);
-    set_long(out, 2, end.character as u64);
-    set_long(out, 3, flag(end.newline));
-    set_long(out, 4, told.line as u64);
-    set_long(out, 5, told.character as u64);
-    set_long(out, 6, p.a);
-    set_long(out, 7, p.b);
-    set_long(out, 8, p.c);
-    set_long(out, 9, p.d);
+    let [a, b, c, d] = told.payload.words;
+    [
+        end.at as u64,
+        end.line as u64,
+        end.character as u64,
+        flag(end.newline),
+        told.line as u64,
+        told.character as u64,
+        a,
+        b,
+        c,
+        d,
+    ]
 }

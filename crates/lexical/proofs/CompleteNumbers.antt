@@ -29,6 +29,7 @@ use Rattle.lexical.specs.Lexical.{Chars, is_digit, is_dot, begins, Run, none, on
 use Rattle.lexical.specs.Lexed.{characters_at}
 use Rattle.lexical.proofs.Characters.{Walk, here, step, walk_past, walk_short, stopped}
 use Rattle.lexical.proofs.Letters.{apart, digit_no_sign, digit_no_pair, digit_no_space, digit_span}
+use Rattle.lexical.proofs.SoundNumbers.{digit_dot}
 use Rattle.lexical.proofs.CompleteWords.{Taken, long}
 use Rattle.std.specs.Prelude.{Some, None, Ok}
 use Rattle.base.specs.Option.{on_option}
@@ -62,10 +63,6 @@ added_dot x ks js = added_append x ks (46 ∷ js)
 added_digit : (x : Sum) (k : ℕ) (ks : Chars) → is_digit k ≡ true → added_all x (k ∷ ks) ≡ added_all (digit_added x (digit_value k)) ks
 unfolding added_all on_option
 added_digit x k ks e = ap (λ y. added_all (on_option y (dotted x) λ v. digit_added x v) ks) (is_digit_lem k 10 e)
-
-digit_dot : (x : Sum) (v : ℕ) → (digit_added x v).dot ≡ x.dot
-unfolding digit_added pick
-digit_dot x v = by-test x.dot (λ e. rw e) (λ e. rw e)
 
 digits_dot : (x : Sum) {ks : Chars} → Run is_digit true ks → (added_all x ks).dot ≡ x.dot
 unfolding added_all

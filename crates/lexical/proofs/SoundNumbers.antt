@@ -79,9 +79,9 @@ record Summed (s : Bytes) (x r : Digits) : Type 0 where
   pub adds : r.sum ≡ added_all x.sum chars
   pub shape : Digited x.sum.dot chars (characters_at s r.end.at)
 
-added_dot : (x : Sum) (v : ℕ) → (digit_added x v).dot ≡ x.dot
+pub digit_dot : (x : Sum) (v : ℕ) → (digit_added x v).dot ≡ x.dot
 unfolding digit_added
-added_dot x v = pick_split (λ (y : Sum). y.dot ≡ x.dot) x.dot _ _ (λ t. sym t) (λ t. sym t)
+digit_dot x v = pick_split (λ (y : Sum). y.dot ≡ x.dot) x.dot _ _ (λ t. sym t) (λ t. sym t)
 
 added_places : (x : Sum) (v : ℕ) → x.dot ≡ false → (digit_added x v).places ≡ x.places
 unfolding digit_added
@@ -137,7 +137,7 @@ summed_digit s x r d k v q m h =
       adds = h.adds ∙ ap (λ y. added_all (on_option y (dotted x.sum) λ v. digit_added x.sum v) h.chars) (sym m);
       shape =
           digited_digit k (subst (Valued 10 k) m (valued 10 k)).0
-          (subst (λ b. Digited b h.chars (characters_at s r.end.at)) (added_dot x.sum v) h.shape);
+          (subst (λ b. Digited b h.chars (characters_at s r.end.at)) (digit_dot x.sum v) h.shape);
     }
 
 digits_turn_lem : (s : Bytes) (x : Digits) → Goes (Summed s) (λ y. left s y.end) x (digits_turn s x)
@@ -169,7 +169,7 @@ bare_dot x none e p = ap (λ n. eqb n 0) p
 bare_dot x (one {k = k} {ks = ks} t r) e p =
     let y = digit_added x (digit_value k) in
     ap (λ b. is_bare_dot (added_all (on_option (pick b (Some (digit_value k)) None) (dotted x) λ v. digit_added x v) (ks ++ (46 ∷ [])))) t
-    ∙ bare_dot y r (added_dot x (digit_value k) ∙ e) (added_places x (digit_value k) e ∙ p)
+    ∙ bare_dot y r (digit_dot x (digit_value k) ∙ e) (added_places x (digit_value k) e ∙ p)
 
 -- a number without a sign, that begins with a character at a cursor
 record Unsigned (s : Bytes) (negative : Bool) (b : Cursor) (k : ℕ) (t : Token) (d : Cursor) : Type 0 where

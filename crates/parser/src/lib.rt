@@ -54,7 +54,7 @@ pub fn load(
 }
 
 // Every table is zero.
-fn blank(
+pub fn blank(
     rules: &mut [u32],
     selectors: &mut [u32],
     tests: &mut [u32],

@@ -49,7 +49,7 @@ fn print_plate<W: Write>(out: &mut W, input: &[u8]) -> io::Result<()> {
     ) {
         Err(e) => {
             let n = refusal_line(e, &mut line);
-            print_line(out, &line, n)
+            out.write_all(first(&line, n))
         }
         Ok((b, k)) => {
             print_layers(
@@ -76,7 +76,7 @@ fn print_layers<W: Write>(
 ) -> io::Result<()> {
     for i in 0..k {
         let n = layer_line(bundle, &selectors[..], &maps[..], i, line);
-        print_line(out, &line[..], n)?;
+        out.write_all(first(line, n))?;
         print_properties(out, bundle, &properties[..], &maps[..], i, line)?;
     }
     Ok(())
@@ -93,12 +93,12 @@ fn print_properties<W: Write>(
     let count = property_count(maps, i) as usize;
     for j in 0..count {
         let n = property_line(bundle, properties, maps, i, j, line);
-        print_line(out, &line[..], n)?;
+        out.write_all(first(line, n))?;
     }
     Ok(())
 }
 
 // The first n bytes.
-fn print_line<W: Write>(out: &mut W, line: &[u8], n: usize) -> io::Result<()> {
-    out.write_all(base::part(line, Range { from: 0, to: n }))
+fn first(line: &[u8], n: usize) -> &[u8] {
+    base::part(line, Range { from: 0, to: n })
 }

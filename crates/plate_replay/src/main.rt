@@ -4,13 +4,9 @@
 
 ghost use Rattle.std.specs.Prelude.{◌≡◌, ◌+◌, ◌≤◌, ◌<◌, length, IfSome};
 
-use base::part;
-use base::refusal::Refusal;
+use base::{Range, part};
 use std::io;
 use stdio::cases::{piece_at, replay};
-
-// No place of an output.
-const NOWHERE: usize = 18446744073709551615;
 
 fn main(rt: HostRuntime) -> io::Result<()> {
     replay(&mut rt.stdin(), &mut rt.stdout(), case_at)
@@ -28,6 +24,11 @@ fn case_at(s: &[u8], at: usize) -> Option<(usize, bool)>
 
 // Whether plate prints this output. What is lent holds something else before.
 fn agrees(input: &[u8], output: &[u8]) -> bool {
+    end_of(input, output).is_some_and(|end| end == output.len())
+}
+
+// Where what plate prints ends, where the output begins with it.
+fn end_of(input: &[u8], output: &[u8]) -> Option<usize> {
     let mut rules = [4294967295u32; 4096];
     let mut selectors = [4294967295u32; 4096];
     let mut tests = [4294967295u32; 4096];
@@ -35,6 +36,7 @@ fn agrees(input: &[u8], output: &[u8]) -> bool {
     let mut numbers = [1.5f64; 512];
     let mut colors = [4294967295u32; 4096];
     let mut maps = [4294967295u32; 4323];
+    let mut line = [0u8; 60064];
     match printing::plate(
         input,
         &mut rules,
@@ -45,109 +47,67 @@ fn agrees(input: &[u8], output: &[u8]) -> bool {
         &mut colors,
         &mut maps,
     ) {
-        Err(e) => { refusal_behind(e, output) == output.len() }
+        Err(e) => {
+            let n = line::refusal_line(e, &mut line);
+            behind(output, 0, part(&line, Range { from: 0, to: n }))
+        }
         Ok((b, layers)) => {
-            layers_agree(
+            layers_behind(
                 part(input, b),
                 &selectors,
                 &properties,
                 &maps,
                 layers,
                 output,
+                &mut line,
             )
         }
     }
 }
 
-fn refusal_behind(e: Refusal, output: &[u8]) -> usize {
-    let mut out = [0u8; 60064];
-    let n = line::refusal_line(e, &mut out);
-    behind(output, 0, &out, n)
-}
-
-// Whether the layers are printed as the output says, to its end.
-fn layers_agree(
+// The place behind the layers' lines, where the output begins with them. A line is written into what is lent.
+fn layers_behind(
     bundle: &[u8],
     selectors: &[u32; 4096],
     properties: &[u32; 4096],
     maps: &[u32; 4323],
     layers: usize,
     output: &[u8],
-) -> bool {
+    line: &mut [u8],
+) -> Option<usize> {
     let mut at: usize = 0;
     for i in 0..layers {
-        at = layer_behind(
-            bundle,
-            &selectors[..],
-            &properties[..],
-            &maps[..],
-            i,
-            output,
-            at,
-        );
+        let n = line::layer_line(bundle, &selectors[..], &maps[..], i, line);
+        at = behind(output, at, part(line, Range { from: 0, to: n }))?;
+        at = properties_behind(bundle, &properties[..], &maps[..], i, output, at, line)?;
     }
-    at == output.len()
+    Some(at)
 }
 
-// The place behind a layer's lines, where the output has them at a place, else nowhere.
-fn layer_behind(
+// The place behind the lines of a layer's properties, where the output has them at a place.
+fn properties_behind(
     bundle: &[u8],
-    selectors: &[u32],
     properties: &[u32],
     maps: &[u32],
     i: usize,
     output: &[u8],
     from: usize,
-) -> usize {
-    let mut at = name_behind(bundle, selectors, maps, i, output, from);
+    line: &mut [u8],
+) -> Option<usize> {
+    let mut at = from;
     let count = line::property_count(maps, i) as usize;
     for j in 0..count {
-        at = property_behind(bundle, properties, maps, i, j, output, at);
+        let n = line::property_line(bundle, properties, maps, i, j, line);
+        at = behind(output, at, part(line, Range { from: 0, to: n }))?;
     }
-    at
+    Some(at)
 }
 
-fn name_behind(
-    bundle: &[u8],
-    selectors: &[u32],
-    maps: &[u32],
-    i: usize,
-    output: &[u8],
-    at: usize,
-) -> usize {
-    let mut out = [0u8; 60064];
-    let n = line::layer_line(bundle, selectors, maps, i, &mut out);
-    behind(output, at, &out, n)
-}
-
-fn property_behind(
-    bundle: &[u8],
-    properties: &[u32],
-    maps: &[u32],
-    i: usize,
-    j: usize,
-    output: &[u8],
-    at: usize,
-) -> usize {
-    let mut out = [0u8; 60064];
-    let n = line::property_line(bundle, properties, maps, i, j, &mut out);
-    behind(output, at, &out, n)
-}
-
-// The place behind the first n bytes of a line, where the output has them at a place, else nowhere.
-fn behind(output: &[u8], at: usize, out: &[u8], n: usize) -> usize {
-    if output.len() < at {
-        return NOWHERE;
+// The place behind a line, where the output has it at a place.
+fn behind(output: &[u8], at: usize, line: &[u8]) -> Option<usize> {
+    let end = at.checked_add(line.len())?;
+    if base::same_bytes(part(output, Range { from: at, to: end }), line) {
+        return Some(end);
     }
-    if out.len() < n {
-        return NOWHERE;
-    }
-    let rest = &output[at..];
-    if rest.len() < n {
-        return NOWHERE;
-    }
-    if base::same_bytes(&rest[..n], &out[..n]) {
-        return at + n;
-    }
-    NOWHERE
+    None
 }

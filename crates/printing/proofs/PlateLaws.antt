@@ -8,7 +8,6 @@ use borrow.Author.Tests.{le-ltb}
 use Rattle.base.specs.Bytes.{Bytes, within}
 use Rattle.base.specs.Choice.{if_false, via, via_with}
 use Rattle.base.specs.Refusal.{refusal}
-use Rattle.base.specs.Table.{zero_float}
 use Rattle.base.specs.declared.Range.{Range}
 use Rattle.base.specs.declared.refusal.Refusal.{Refusal}
 use Rattle.group.specs.Number.{number_at}
@@ -26,17 +25,6 @@ use Rattle.base.specs.Option.{option_none, option_some}
 
 pub zeroed : {A : Type 0} (z : A) (n k : ℕ) (u : List A) → u ≡ replicate n z → n ≡ k → u ≡ replicate k z
 zeroed z n k u e p = e ∙ ap (λ (k : ℕ). replicate k z) p
-
-pub all_zero :
-    {rs ss ts ps : List ℕ} {xs : List Float} {cs : List ℕ}
-    → rs ≡ replicate 4096 0
-    → ss ≡ replicate 4096 0
-    → ts ≡ replicate 4096 0
-    → ps ≡ replicate 4096 0
-    → xs ≡ replicate 512 zero_float
-    → cs ≡ replicate 4096 0
-    → held rs ss ts ps xs cs ≡ zeros room
-all_zero a b c d e f = rw (a, b, c, d, e, f)
 
 pub room_is :
     (a b c d e f : ℕ)

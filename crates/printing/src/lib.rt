@@ -2,13 +2,12 @@
 #![tactic(auto)]
 
 ghost use Rattle.std.specs.Prelude.{◌≡◌};
-ghost use Rattle.parser.specs.Load.{held, zeros, load_of};
-ghost use Rattle.walk.specs.Maps.{no_rows};
+ghost use Rattle.parser.specs.Load.{held, load_of};
 ghost use Rattle.printing.specs.Frame.{frame_of};
 ghost use Rattle.printing.specs.Plate.{plate, room, five_of, loaded_plate, plate_of};
 
 use base::refusal::{BUNDLE_LAYOUT, Refusal};
-use base::{Range, zero_floats, zero_words};
+use base::{Range, zero_words};
 use table::Tables;
 use valid::Counts;
 
@@ -27,7 +26,8 @@ pub fn plate(
 {
     match parts(input) {
         None => {
-            blank(rules, selectors, tests, properties, numbers, colors, maps);
+            parser::blank(rules, selectors, tests, properties, numbers, colors);
+            zero_words(&mut maps[..]);
             Err(Refusal::plain(BUNDLE_LAYOUT))
         }
         Some((zoom, b, e)) => styled(
@@ -67,28 +67,6 @@ fn parts(input: &[u8]) -> Option<(u8, Range, Range)>
         },
         Range { from: end, to: len },
     ))
-}
-
-// Every table is zero.
-fn blank(
-    rules: &mut [u32; 4096],
-    selectors: &mut [u32; 4096],
-    tests: &mut [u32; 4096],
-    properties: &mut [u32; 4096],
-    numbers: &mut [f64; 512],
-    colors: &mut [u32; 4096],
-    maps: &mut [u32; 4323],
-)
-    ensures colors_after { held rules.new selectors.new tests.new properties.new numbers.new colors.new ≡ zeros room }
-    ensures maps_after { maps.new ≡ no_rows }
-{
-    zero_words(&mut rules[..]);
-    zero_words(&mut selectors[..]);
-    zero_words(&mut tests[..]);
-    zero_words(&mut properties[..]);
-    zero_floats(&mut numbers[..]);
-    zero_words(&mut colors[..]);
-    zero_words(&mut maps[..]);
 }
 
 // Loads the bundle, which stands at b, and walks the entity through its sheet.

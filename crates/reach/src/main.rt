@@ -11,8 +11,70 @@ use stdio::line;
 use table::{PropertyValue, Tables};
 use valid::Counts;
 
-// Properties or a style written out: how many words; then what they hold, and no place in a bundle or a table.
-type Words = [u64; 128];
+// Properties or a style written out: what they hold, and no place in a bundle or a table. 127 words are too much.
+#[derive(Clone, Copy, PartialEq)]
+struct Words {
+    words: [u64; 127],
+    count: usize,
+}
+
+impl Words {
+    fn none() -> Words {
+        Words {
+            words: [0; 127],
+            count: 0,
+        }
+    }
+
+    // As far as there is room.
+    fn push(&mut self, w: u64) {
+        if self.count < 127 {
+            self.words[self.count] = w;
+            self.count += 1;
+        }
+    }
+
+    fn push_name(&mut self, name: &[u8]) {
+        self.push(name.len() as u64);
+        for b in name {
+            self.push(u64::from(*b));
+        }
+    }
+
+    // What it is, and its bits; all NaN are one.
+    fn push_number(&mut self, kind: u64, x: f64) {
+        self.push(kind);
+        self.push(bits_of(x));
+    }
+
+    // A number that may be absent.
+    fn push_measure(&mut self, m: Option<f64>) {
+        match m {
+            None => self.push_number(0, 0.0),
+            Some(x) => self.push_number(1, x),
+        }
+    }
+
+    // The tag `layer`, to the nearest f64.
+    fn push_layer(&mut self, tag: Option<i64>) {
+        match tag {
+            None => self.push(0),
+            Some(i) => self.push_number(1, std::num::nearest_i64_to_f64(i)),
+        }
+    }
+
+    // The value of property q. A kind that the sheets do not have fills all the room.
+    fn push_value(&mut self, p: &Table, x: &[f64; 512], q: usize) {
+        match table::property_value(&p[..], &x[..], q) {
+            PropertyValue::Shade(c) => self.push(color_word(Some(c))),
+            PropertyValue::Numbers(r) if r.from < r.to && r.to - r.from == 1 => {
+                self.push_number(1, base::float_at(&x[..], r.from));
+            }
+            PropertyValue::WidthDelta(d) => self.push_number(2, d),
+            _ => self.count = 127,
+        }
+    }
+}
 
 type Table = [u32; 4096];
 
@@ -58,8 +120,8 @@ fn main(rt: HostRuntime) -> io::Result<()> {
 
 // 1 if both hold something, whole, and are equal.
 fn alike(x: &Words, y: &Words) -> u64 {
-    let whole = 2 <= x[0] && x[0] <= 127;
-    u64::from(whole && x.iter().zip(y.iter()).all(|(a, b)| a == b))
+    let whole = 0 < x.count && x.count < 127;
+    u64::from(whole && x == y)
 }
 
 // The tables: rules r, selectors s, tests t, properties p, numbers x, colours q, property maps m.
@@ -124,60 +186,12 @@ fn five(rules: usize, selectors: usize, tests: usize, properties: usize, numbers
 fn properties_of(b: &[u8], s: &Table, p: &Table, x: &[f64; 512], m: &Maps, name: &[u8]) -> Words {
     let i = walk::layer_place(b, &s[..], &m[..], 32, name);
     let row = styles::parts::row_of(m, i);
-    let mut out = [0u64; 128];
-    let mut n: usize = 1;
+    let mut out = Words::none();
     for k in row {
-        let at = put_name(&mut out, n, walk::names::name_of(b, &p[..], *k));
-        n = put_value(&mut out, at, p, x, *k as usize);
+        out.push_name(walk::names::name_of(b, &p[..], *k));
+        out.push_value(p, x, *k as usize);
     }
-    out[0] = n as u64;
     out
-}
-
-fn put_name(out: &mut Words, n: usize, name: &[u8]) -> usize {
-    let mut m = put(out, n, name.len() as u64);
-    for b in name {
-        m = put(out, m, u64::from(*b));
-    }
-    m
-}
-
-// The value of property q. A kind that the sheets do not have fills all the room.
-fn put_value(out: &mut Words, n: usize, p: &Table, x: &[f64; 512], q: usize) -> usize {
-    match table::property_value(&p[..], &x[..], q) {
-        PropertyValue::Shade(c) => put(out, n, color_word(Some(c))),
-        PropertyValue::Numbers(r) => {
-            if r.from < r.to && r.to - r.from == 1 {
-                return put_number(out, n, 1, base::float_at(&x[..], r.from));
-            }
-            128
-        }
-        PropertyValue::WidthDelta(d) => put_number(out, n, 2, d),
-        _ => 128,
-    }
-}
-
-// What it is, and its bits; all NaN are one.
-fn put_number(out: &mut Words, n: usize, kind: u64, x: f64) -> usize {
-    let m = put(out, n, kind);
-    put(out, m, bits_of(x))
-}
-
-// A number that may be absent.
-fn put_measure(out: &mut Words, n: usize, m: Option<f64>) -> usize {
-    match m {
-        None => put_number(out, n, 0, 0.0),
-        Some(x) => put_number(out, n, 1, x),
-    }
-}
-
-// Behind the first n, as far as there is room.
-fn put(out: &mut Words, n: usize, w: u64) -> usize {
-    if n < 128 {
-        out[n] = w;
-        return n + 1;
-    }
-    128
 }
 
 fn color_word(c: Option<Color>) -> u64 {
@@ -187,17 +201,9 @@ fn color_word(c: Option<Color>) -> u64 {
     }
 }
 
-// The tag `layer`, to the nearest f64.
-fn put_layer(out: &mut Words, n: usize, tag: Option<i64>) -> usize {
-    match tag {
-        None => put(out, n, 0),
-        Some(i) => put_number(out, n, 1, std::num::nearest_i64_to_f64(i)),
-    }
-}
-
 // The style of the layer of this name.
 fn style_of(bundle: &[u8], s: &Table, all: &styles::EntityStyles, name: &[u8]) -> Words {
-    let mut out = [0u64; 128];
+    let mut out = Words::none();
     let layers = all.layers;
     let answer = all.answer;
     let Ok(n) = answer else {
@@ -206,33 +212,27 @@ fn style_of(bundle: &[u8], s: &Table, all: &styles::EntityStyles, name: &[u8]) -
     for i in 0..n.min(32) {
         let l = layers[i];
         if walk::names::is_layer(bundle, &s[..], l.selector, name) {
-            let style = l.style;
-            let k = put_style(&mut out, style);
-            out[0] = k as u64;
+            out = style_words(l.style);
         }
     }
     out
 }
 
 // All flags, numbers and colours.
-fn put_style(out: &mut Words, s: style::Style) -> usize {
+fn style_words(s: style::Style) -> Words {
     let t = s.text_style;
-    let layer = s.layer;
-    let color = s.color;
-    let fill = s.fill_color;
-    let background = s.background_color;
-    let casing = s.casing_color;
-    let text = t.text_color;
-    let n = put_layer(out, 1, layer);
-    let n = put(out, n, color_word(color));
-    let n = put(out, n, color_word(fill));
-    let n = put(out, n, color_word(background));
-    let n = put(out, n, color_word(casing));
-    let n = put(out, n, color_word(text));
-    let n = put_number(out, n, u64::from(s.is_foreground_fill), s.z_index);
-    let n = put_measure(out, n, s.opacity);
-    let n = put_measure(out, n, s.fill_opacity);
-    let n = put_measure(out, n, s.width);
-    let n = put_measure(out, n, s.casing_width);
-    put_measure(out, n, t.font_size)
+    let mut out = Words::none();
+    out.push_layer(s.layer);
+    out.push(color_word(s.color));
+    out.push(color_word(s.fill_color));
+    out.push(color_word(s.background_color));
+    out.push(color_word(s.casing_color));
+    out.push(color_word(t.text_color));
+    out.push_number(u64::from(s.is_foreground_fill), s.z_index);
+    out.push_measure(s.opacity);
+    out.push_measure(s.fill_opacity);
+    out.push_measure(s.width);
+    out.push_measure(s.casing_width);
+    out.push_measure(t.font_size);
+    out
 }

@@ -32,9 +32,5 @@ fn scan() -> Tally {
 fn is_found(k: u32) -> bool {
     let e = scalar::encode(k);
     let bytes = e.bytes;
-    match utf8::char_at(&bytes, 0) {
-        Char::Bad => false,
-        Char::End => false,
-        Char::Code(c, w) => c == k && w == e.width,
-    }
+    matches!(utf8::char_at(&bytes, 0), Char::Code(c, w) if c == k && w == e.width)
 }
