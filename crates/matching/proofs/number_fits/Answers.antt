@@ -1,8 +1,8 @@
 use mathlib.Core.Path.{◌∙◌, ap}
-use Rattle.cascade.specs.Match.{of_bool}
+use Rattle.std.specs.Prelude.{Ok}
 use Rattle.cascade.specs.Number.{tag_number}
 use Rattle.tag_number.specs.Elim.{on-TagNumber}
-use Rattle.matching.specs.Matching.{fit_of, comparison_of}
+use Rattle.matching.specs.Matching.{comparison_of}
 use Rattle.matching.proofs.Tests.{number_fit_lem}
 use Rattle.matching.proofs.number_fits.Goals as goal
 
@@ -24,8 +24,7 @@ returns-in-OutOfRange c = number_fit_lem
 
 pub returns-in-Reads : goal.returns-in-Reads
 unfolding on-TagNumber
-returns-in-Reads c = c.fit_of.ensures
-    ∙ ap (λ b. fit_of (of_bool b)) c.compare.ensures
+returns-in-Reads c = ap Ok c.compare.ensures
     ∙ number_fit_lem
     (comparison_of c.args.kind)
     c.args.bound
