@@ -20,10 +20,10 @@ use Rattle.sheet.specs.Sheet.{NumericTest, Test, numeric}
 use Rattle.table.specs.Value.{word_at, range_at}
 use Rattle.cascade.specs.Number.{reads, malformed, out_of_range, tag_number, TagNumber as Number}
 use Rattle.cascade.specs.Match.{tag, of_bool, present, true_value, unary_holds, equals, text_holds, compares, number_verdict, numeric_verdict, test_key, test_verdict, verdict_on}
-use Rattle.tag_number.specs.Elim.{on-TagNumber}
 use Rattle.reader.specs.Tags.{value_in}
 use Rattle.tag_number.specs.Told.{told}
-use Rattle.tag_number.specs.declared.TagNumber.{TagNumber}
+use Rattle.tag_number.specs.declared.NumberError.{NumberError}
+use Rattle.tag_number.specs.declared.NumberError.TheVariants.{Malformed as Misspelt, OutOfRange as BeyondExact}
 use Rattle.reader.proofs.Lookup.{tag_value}
 use Rattle.decode.specs.Decode.{key_at, test_at}
 use Rattle.matching.specs.Matching.{out_of_range as beyond_range, fit_of, comparison_of, absent_of}
@@ -56,16 +56,18 @@ ok_fit false = refl
 
 -- a numeric test, by what the tag's value reads as
 module _ (c : NumericTest) (y : Float) where
-  abbrev pub number_fit : TagNumber → Result Bool OutOfRange
-  number_fit r = on-TagNumber r (Ok false) (Err beyond_range) (λ x. Ok (compares c x y))
+  abbrev pub number_fit : Result Float NumberError → Result Bool OutOfRange
+  number_fit (Ok x) = Ok (compares c x y)
+  number_fit (Err Misspelt) = Ok false
+  number_fit (Err BeyondExact) = Err beyond_range
 
   told_fit : (n : Number) → number_fit (told n) ≡ fit_of (number_verdict c y n)
-  unfolding on-TagNumber told number_verdict
+  unfolding told number_verdict
   told_fit (reads x) = ok_fit (compares c x y)
   told_fit malformed = refl
   told_fit out_of_range = refl
 
-  pub number_fit_lem : (n : Number) (r k : TagNumber) → r ≡ told n → r ≡ k → number_fit k ≡ fit_of (number_verdict c y n)
+  pub number_fit_lem : (n : Number) (r k : Result Float NumberError) → r ≡ told n → r ≡ k → number_fit k ≡ fit_of (number_verdict c y n)
   number_fit_lem n r k e h = ap number_fit (sym h ∙ e) ∙ told_fit n
 
 -- the key of a test, of one part or two, and the tag that has it

@@ -16,7 +16,7 @@ ghost use Rattle.matching.specs.Matching.{fit_of, comparison_of, absent_of};
 use base::Range;
 use entity::EntityRange;
 use table::Tables;
-use tag_number::TagNumber;
+use tag_number::NumberError;
 
 // A numeric test was reached on a tag number outside the exact range.
 #[derive(Clone, Copy)]
@@ -158,9 +158,11 @@ fn number_fits(kind: usize, bound: f64, v: &[u8]) -> Result<bool, OutOfRange>
     ensures { result ≡ fit_of (number_verdict (comparison_of kind) bound (tag_number v.now)) }
 {
     match tag_number::tag_number(v) {
-        TagNumber::Malformed => Ok(false),
-        TagNumber::OutOfRange => Err(OutOfRange),
-        TagNumber::Reads(x) => Ok(compare(kind, x, bound)),
+        Ok(x) => Ok(compare(kind, x, bound)),
+        Err(e) => match e {
+            NumberError::Malformed => Ok(false),
+            NumberError::OutOfRange => Err(OutOfRange),
+        },
     }
 }
 
