@@ -107,15 +107,12 @@ fn color_at(tables: &Tables, name: &[u8], p: usize) -> Option<Color>
     None
 }
 
+#[tactic(auto, unfolding(crate::specs::Canvas::shade_of))]
 fn shade_of(v: PropertyValue) -> Option<Color>
     ensures { result ≡ shade_of v }
 {
     match v {
-        PropertyValue::NoValue => None,
-        PropertyValue::Identifier(_) => None,
-        PropertyValue::Text(_) => None,
         PropertyValue::Shade(c) => Some(c),
-        PropertyValue::Numbers(_) => None,
-        PropertyValue::WidthDelta(_) => None,
+        _ => None,
     }
 }

@@ -1,25 +1,24 @@
 -- Laws of keys, one for each way through the code, over plain lists and numbers.
 use Prim.Native.Nat.{ℕ, suc, ◌+◌, ◌-◌, ◌*◌, ◌≤◌, ◌<◌}
-use mathlib.Core.Path.{◌≡◌, refl, sym, ◌∙◌, ap, subst}
+use mathlib.Core.Path.{◌≡◌, sym, ◌∙◌, ap}
 use mathlib.Core.Bool.{Bool, true, false, not}
 use mathlib.Core.List.{List, [], ◌∷◌, ◌++◌, append-nil}
 use native.Mathlib.Omega.{arith}
-use lib.Dec.{T}
 use lib.IntN.{ℤ}
-use lib.Ieee.{Float, nan, inf, fin, ne, eq, is_nan}
-use lib.Ieee.Compare.{differs_from_itself}
+use lib.Ieee.{Float, is_nan}
 use lib.ListN.{length, take, get_or, set, length-append}
 use lib.Seq.{append_snoc, take-suc-set}
 use native.Mathlib.Numerals.{add-one}
 use borrow.Author.Tests.{lt-ltb, le-ltb}
 use Rattle.base.specs.Bytes.{Bytes, same}
-use Rattle.base.specs.Choice.{pick, clash}
+use Rattle.base.specs.Choice.{pick}
 use Rattle.base.specs.Refusal.{refusal}
 use Rattle.base.specs.declared.refusal.Refusal.{Refusal}
 use Rattle.cascade.specs.Clause.{star}
 use Rattle.cascade.specs.Map.{keep}
 use Rattle.decode.specs.Decode.{places}
 use Rattle.walk.specs.Rows.{numbers_at}
+use Rattle.walk.proofs.LayerLaws.{one_less}
 use Rattle.walk.specs.Selectors.{layer_in}
 use Rattle.style.specs.Style.{z_index_in}
 use Rattle.styles.specs.Styles.{styled_rows}
@@ -28,9 +27,6 @@ use Rattle.drawing.specs.Gather.{Gathered, stopped, gathered, z_of, key_of, keys
 use Rattle.std.specs.Prelude.{Option}
 
 -- ---- the rows of the layers that are left
-
-one_less : (i n : ℕ) → i < n → n - i ≡ suc (n - (i + 1))
-one_less i n h = omega arith
 
 module _ (bundle : Bytes) (selectors t : List ℕ) (m : ℕ) where
   abbrev keeps : ℕ → Bool
@@ -56,16 +52,6 @@ module _ (bundle : Bytes) (selectors t : List ℕ) (m : ℕ) where
     rows_take y = ap (λ k. keep keeps (places i k)) (one_less i m h) ∙ rw (← e, ← q, y)
 
 -- ---- a z-index that is NaN
-
-is_nan_lem : (x : Float) → ne x x ≡ true → is_nan x ≡ true
-unfolding is_nan
-is_nan_lem x h = rw (differs_from_itself x (subst T (sym h) tt))
-
-not_nan : (x : Float) → ne x x ≡ false → is_nan x ≡ false
-unfolding ne eq is_nan
-not_nan nan h = clash refl h
-not_nan (inf s) h = refl
-not_nan (fin s m e) h = refl
 
 module _
     (bundle : Bytes) (selectors properties : List ℕ) (numbers : List Float) (t : List ℕ) (m kind : ℕ) where
@@ -99,13 +85,13 @@ module _
           ∙ sym (ap (any_nan bundle properties numbers t kind) (rows_take bundle selectors t m i h w e r q y))
           ∙ g
 
-      pub nan_found : ne z z ≡ true → true ≡ nan_all
+      pub nan_found : is_nan z ≡ true → true ≡ nan_all
       unfolding pick
-      nan_found x = sym (ap (λ b. pick b true (nan_left (i + 1))) (is_nan_lem z x)) ∙ first
+      nan_found x = sym (ap (λ b. pick b true (nan_left (i + 1))) x) ∙ first
 
-      pub nan_next : ne z z ≡ false → nan_left (i + 1) ≡ nan_all
+      pub nan_next : is_nan z ≡ false → nan_left (i + 1) ≡ nan_all
       unfolding pick
-      nan_next x = sym (ap (λ b. pick b true (nan_left (i + 1))) (not_nan z x)) ∙ first
+      nan_next x = sym (ap (λ b. pick b true (nan_left (i + 1))) x) ∙ first
 
 -- ---- keys behind those so far
 

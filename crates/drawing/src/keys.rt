@@ -48,13 +48,7 @@ fn layer_rank(layer: Option<i64>) -> i64
 fn fill_rank(for_labels: bool, foreground: bool) -> u64
     ensures { result ≡ fill_rank for_labels foreground }
 {
-    if for_labels {
-        return 0;
-    }
-    if foreground {
-        return 1;
-    }
-    0
+    u64::from(foreground && !for_labels)
 }
 
 #[tactic(auto, unfolding(crate::specs::Gather::stream_rank, base::specs::Choice::pick))]
@@ -78,8 +72,7 @@ pub fn any_nan(tables: &Tables, maps: &[u32; 4323], m: usize, kind: u8) -> bool
         ) {
             continue;
         }
-        let z = z_index(tables, row_of(maps, i), kind);
-        if z != z {
+        if z_index(tables, row_of(maps, i), kind).is_nan() {
             return true;
         }
     }

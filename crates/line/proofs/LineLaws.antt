@@ -7,12 +7,11 @@ use mathlib.Core.List.{List, [], ◌∷◌, ◌++◌, append_assoc}
 use lib.ListN.{length, get_or, set, take, drop, length-append, drop_of_length-le, get_or-eq_default}
 use lib.Seq.{drop-cons, set_at}
 use borrow.Author.Tests.{lt-ltb, le-ltb}
-use Rattle.base.specs.Bytes.{Bytes, between}
+use Rattle.base.specs.Bytes.{Bytes}
 use Rattle.base.specs.Choice.{if_true, if_false}
 use Rattle.base.specs.declared.refusal.Refusal.{Refusal}
 use Rattle.decode.specs.Decode.{name_at}
 use Rattle.sheet.specs.Digits.{natural_digits}
-use Rattle.table.specs.Value.{word_at}
 use Rattle.digits.proofs.Written.{natural_one, natural_more}
 use Rattle.walk.specs.Selectors.{layer_in}
 use Rattle.line.specs.Lines.{blank_number, layer_line, property_line, refusal_line, written}
@@ -141,17 +140,14 @@ module _ {p q r : ℕ × Bytes} (out : Bytes) where
       ∙ ap (λ (s : ℕ). written (layer_line (layer_in bundle selectors s)) out) u
 
   pub property_done :
-      (bundle : Bytes) (properties : List ℕ) (n m a b : ℕ) (name : Bytes)
+      (bundle : Bytes) (properties : List ℕ) (n m : ℕ) (name : Bytes)
       → m ≡ n
-      → a ≡ word_at properties m 1
-      → b ≡ word_at properties m 2
-      → name ≡ between a b bundle
+      → name ≡ name_at bundle properties m
       → p ≡ put_all (0, out) name
       → q ≡ put_all p (blank_number m)
       → r ≡ put q 10
       → r ≡ written (property_line (name_at bundle properties n) n) out
-  property_done bundle properties n m a b name z x y s e f g =
-      let l : name ≡ name_at bundle properties m = s ∙ ap₂ (λ (a b : ℕ). between a b bundle) x y in
+  property_done bundle properties n m name z l e f g =
       put_whole out (property_line name m)
       (put_join (0, out) name (blank_number m ++ (10 ∷ [])) e (put_join p (blank_number m) (10 ∷ []) f (put_one q 10 g)))
       ∙ ap (λ (k : Bytes). written (property_line k m) out) l

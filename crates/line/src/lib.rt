@@ -8,15 +8,15 @@ ghost use Rattle.walk.specs.Selectors.{layer_in};
 ghost use Rattle.line.specs.Lines.{blank_number, layer_line, property_line, refusal_line, written};
 ghost use Rattle.line.specs.Put.{put, put_all};
 
-use base::Range;
 use base::refusal::Refusal;
+use walk::names::{layer_name, name_of};
 
 // The line of layer i of the maps.
 pub fn layer_line(bundle: &[u8], selectors: &[u32], maps: &[u32], i: usize, out: &mut [u8]) -> usize
     ensures { (result, out.new) ≡ written (layer_line (layer_in bundle.now selectors.now (get_or maps.now (i * 131) 0))) out.old }
 {
     let n = put_bytes(out, 0, b"layer ");
-    let m = put_layer(out, n, bundle, selectors, row_word(maps, i, 0));
+    let m = put_bytes(out, n, layer_name(bundle, selectors, row_word(maps, i, 0)));
     put_byte(out, m, 10)
 }
 
@@ -38,19 +38,9 @@ pub fn property_line(
 ) -> usize
     ensures { (result, out.new) ≡ written (property_line (name_at bundle.now properties.now (get_or maps.now (i * 131 + 2 + j) 0)) (get_or maps.now (i * 131 + 2 + j) 0)) out.old }
 {
-    let p = property_number(maps, i, j) as usize;
-    let n = put_bytes(
-        out,
-        0,
-        base::part(
-            bundle,
-            Range {
-                from: table::word_of(properties, p, 1),
-                to: table::word_of(properties, p, 2),
-            },
-        ),
-    );
-    let m = put_number(out, n, p);
+    let p = property_number(maps, i, j);
+    let n = put_bytes(out, 0, name_of(bundle, properties, p));
+    let m = put_number(out, n, p as usize);
     put_byte(out, m, 10)
 }
 
@@ -89,27 +79,6 @@ fn property_number(maps: &[u32], i: usize, j: usize) -> u32
         return 0;
     }
     row_word(maps, i, 2 + j)
-}
-
-// Puts the name of selector s's layer.
-fn put_layer(out: &mut [u8], n: usize, bundle: &[u8], selectors: &[u32], s: u32) -> usize
-    ensures { (result, out.new) ≡ put_all (n, out.old) (layer_in bundle.now selectors.now s) }
-{
-    let i = s as usize;
-    if table::word_of(selectors, i, 5) != 1 {
-        return put_bytes(out, n, b"default");
-    }
-    put_bytes(
-        out,
-        n,
-        base::part(
-            bundle,
-            Range {
-                from: table::word_of(selectors, i, 6),
-                to: table::word_of(selectors, i, 7),
-            },
-        ),
-    )
 }
 
 // Puts a blank and a number.

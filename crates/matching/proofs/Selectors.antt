@@ -11,9 +11,9 @@ use Rattle.base.specs.Entity.{Entity}
 use Rattle.sheet.specs.Sheet.{Test, Selector}
 use Rattle.cascade.specs.Match.{Verdict, pass, fail, out, verdict_on, at_least, at_most, fits_type, applies, and_then, tests_verdict, verdict}
 use Rattle.decode.specs.Decode.{places, level_at, type_at}
+use Rattle.std.specs.Prelude.{Result, Ok, Err}
 use Rattle.matching.specs.Matching.{fit_of}
-use Rattle.matching.specs.declared.Fit.{Fit}
-use Rattle.matching.specs.declared.Fit.TheVariants.{Out, Misses, Fits}
+use Rattle.matching.specs.declared.OutOfRange.{OutOfRange}
 use Rattle.matching.proofs.Tests.{Not}
 
 -- zooms, stored plus one
@@ -60,10 +60,10 @@ type_area k z h =
     )
 
 -- the tests that are left
-abbrev fit_then : Fit → Fit → Fit
-fit_then Out r = Out
-fit_then Misses r = Misses
-fit_then Fits r = r
+abbrev fit_then : Result Bool OutOfRange → Result Bool OutOfRange → Result Bool OutOfRange
+fit_then (Err x) r = Err x
+fit_then (Ok false) r = Ok false
+fit_then (Ok true) r = r
 
 then_is : (a b : Verdict) → fit_then (fit_of a) (fit_of b) ≡ fit_of (and_then a b)
 then_is pass b = refl
@@ -71,16 +71,16 @@ then_is fail b = refl
 then_is out b = refl
 
 module _ (e : Entity) (f : ℕ → Test) (to : ℕ) where
-  abbrev pub left_fit : ℕ → Fit
+  abbrev pub left_fit : ℕ → Result Bool OutOfRange
   left_fit k = fit_of (tests_verdict e (map f (places k (to - k))))
 
   module _ (k : ℕ) where
-    pub tests_end : to ≤ k → Fits ≡ left_fit k
+    pub tests_end : to ≤ k → Ok true ≡ left_fit k
     unfolding places tests_verdict
     tests_end h = let p : to - k ≡ 0 = omega arith in rw p
 
-    module _ (h : k < to) (r : Fit) (p : r ≡ fit_of (verdict_on e (f k))) where
-      pub tests_step : (d : Fit) → r ≡ d → fit_then d (left_fit (k + 1)) ≡ left_fit k
+    module _ (h : k < to) (r : Result Bool OutOfRange) (p : r ≡ fit_of (verdict_on e (f k))) where
+      pub tests_step : (d : Result Bool OutOfRange) → r ≡ d → fit_then d (left_fit (k + 1)) ≡ left_fit k
       unfolding places tests_verdict
       tests_step d q =
           let n : to - k ≡ suc (to - (k + 1)) = omega arith in
@@ -90,15 +90,15 @@ module _ (e : Entity) (f : ℕ → Test) (to : ℕ) where
 
 -- the whole selector
 module _ (z : ℕ) (e : Entity) (s : Selector) (a : Bool) (p : a ≡ (at_least z s.min_zoom && at_most z s.max_zoom)) where
-  pub beyond : a ≡ false → Misses ≡ fit_of (verdict z e s)
+  pub beyond : a ≡ false → Ok false ≡ fit_of (verdict z e s)
   unfolding verdict applies
   beyond h = rw (← p, h)
 
   module _ (h : a ≡ true) (b : Bool) (q : b ≡ fits_type s.object_type e.kind) where
-    pub other_type : b ≡ false → Misses ≡ fit_of (verdict z e s)
+    pub other_type : b ≡ false → Ok false ≡ fit_of (verdict z e s)
     unfolding verdict applies
     other_type g = rw (← p, h, ← q, g)
 
-    pub right_type : b ≡ true → (r : Fit) → r ≡ fit_of (tests_verdict e s.tests) → r ≡ fit_of (verdict z e s)
+    pub right_type : b ≡ true → (r : Result Bool OutOfRange) → r ≡ fit_of (tests_verdict e s.tests) → r ≡ fit_of (verdict z e s)
     unfolding verdict applies
     right_type g r i = rw (← p, h, ← q, g) i

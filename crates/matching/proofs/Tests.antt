@@ -20,16 +20,15 @@ use Rattle.sheet.specs.Sheet.{NumericTest, Test, numeric}
 use Rattle.table.specs.Value.{word_at, range_at}
 use Rattle.cascade.specs.Number.{reads, malformed, out_of_range, tag_number, TagNumber as Number}
 use Rattle.cascade.specs.Match.{tag, of_bool, present, true_value, unary_holds, equals, text_holds, compares, number_verdict, numeric_verdict, test_key, test_verdict, verdict_on}
-use Rattle.tag_number.specs.Elim.{on-TagNumber}
 use Rattle.reader.specs.Tags.{value_in}
 use Rattle.tag_number.specs.Told.{told}
-use Rattle.tag_number.specs.declared.TagNumber.{TagNumber}
+use Rattle.tag_number.specs.declared.NumberError.{NumberError}
+use Rattle.tag_number.specs.declared.NumberError.TheVariants.{Malformed as Misspelt, OutOfRange as BeyondExact}
 use Rattle.reader.proofs.Lookup.{tag_value}
 use Rattle.decode.specs.Decode.{key_at, test_at}
-use Rattle.matching.specs.Matching.{fit_of, comparison_of, absent_of}
-use Rattle.matching.specs.declared.Fit.{Fit}
-use Rattle.matching.specs.declared.Fit.TheVariants.{Out, Misses, Fits}
-use Rattle.std.specs.Prelude.{Option, Some, None}
+use Rattle.matching.specs.Matching.{out_of_range as beyond_range, fit_of, comparison_of, absent_of}
+use Rattle.matching.specs.declared.OutOfRange.{OutOfRange}
+use Rattle.std.specs.Prelude.{Option, Some, None, Result, Ok, Err}
 use Rattle.base.specs.Option.{on_option}
 
 abbrev pub Not : ℕ → ℕ → Type 0
@@ -50,18 +49,25 @@ module _ (v : Bytes) (a : Bool) (p : a ≡ same v (ascii "yes")) where
     unfolding true_value
     true_one g d r = rw (← p, f, ← q, g, ← r)
 
+-- a test that reads no number
+pub ok_fit : (b : Bool) → Ok b ≡ fit_of (of_bool b)
+ok_fit true = refl
+ok_fit false = refl
+
 -- a numeric test, by what the tag's value reads as
 module _ (c : NumericTest) (y : Float) where
-  abbrev pub number_fit : TagNumber → Fit
-  number_fit r = on-TagNumber r Misses Out (λ x. fit_of (of_bool (compares c x y)))
+  abbrev pub number_fit : Result Float NumberError → Result Bool OutOfRange
+  number_fit (Ok x) = Ok (compares c x y)
+  number_fit (Err Misspelt) = Ok false
+  number_fit (Err BeyondExact) = Err beyond_range
 
   told_fit : (n : Number) → number_fit (told n) ≡ fit_of (number_verdict c y n)
-  unfolding on-TagNumber told number_verdict
-  told_fit (reads x) = refl
+  unfolding told number_verdict
+  told_fit (reads x) = ok_fit (compares c x y)
   told_fit malformed = refl
   told_fit out_of_range = refl
 
-  pub number_fit_lem : (n : Number) (r k : TagNumber) → r ≡ told n → r ≡ k → number_fit k ≡ fit_of (number_verdict c y n)
+  pub number_fit_lem : (n : Number) (r k : Result Float NumberError) → r ≡ told n → r ≡ k → number_fit k ≡ fit_of (number_verdict c y n)
   number_fit_lem n r k e h = ap number_fit (sym h ∙ e) ∙ told_fit n
 
 -- the key of a test, of one part or two, and the tag that has it
@@ -139,10 +145,10 @@ module _ (bundle : Bytes) (t : List ℕ) (xs : List Float) (i : ℕ) where
       (λ e. by-test (eqb k 10) (λ f. rw (e, f)) (λ f. by-test (eqb k 11) (λ g. rw (e, f, g)) (λ g. rw (e, f, g)))))
 
   -- on an absent tag
-  abbrev none_fit : Fit
+  abbrev none_fit : Result Bool OutOfRange
   none_fit = fit_of (test_verdict (test_at bundle t xs i) none)
 
-  absent_number : Numeric (word_at t i 0) → absent_of (word_at t i 0) ≡ none_fit
+  absent_number : Numeric (word_at t i 0) → Ok (absent_of (word_at t i 0)) ≡ none_fit
   unfolding absent_of pick test_verdict numeric_verdict
   absent_number h =
       let k = word_at t i 0 in
@@ -151,7 +157,7 @@ module _ (bundle : Bytes) (t : List ℕ) (xs : List Float) (i : ℕ) where
   by_kind : {A : Type 0} (n : ℕ) → (word_at t i 0 ≡ n → A) → (Not (word_at t i 0) n → A) → A
   by_kind n f g = by-test (eqb (word_at t i 0) n) (λ e. f (eqb-true _ n e)) (λ e. g (eqb-false _ n e))
 
-  absent_is : absent_of (word_at t i 0) ≡ none_fit
+  absent_is : Ok (absent_of (word_at t i 0)) ≡ none_fit
   unfolding absent_of pick test_at test_verdict unary_holds text_holds equals present true_value
   absent_is =
       by_kind 1 (λ h. rw h) λ a.
@@ -166,52 +172,52 @@ module _ (bundle : Bytes) (t : List ℕ) (xs : List Float) (i : ℕ) where
 
   -- on a value
   module _ (v : Bytes) (k : ℕ) (p : k ≡ word_at t i 0) where
-    abbrev some_fit : Fit
+    abbrev some_fit : Result Bool OutOfRange
     some_fit = fit_of (test_verdict (test_at bundle t xs i) (some v))
 
-    pub value_exists : k ≡ 1 → Fits ≡ some_fit
+    pub value_exists : k ≡ 1 → Ok true ≡ some_fit
     unfolding test_at pick test_verdict unary_holds present
     value_exists h = rw (via p h)
 
-    pub value_not_exists : k ≡ 2 → Misses ≡ some_fit
+    pub value_not_exists : k ≡ 2 → Ok false ≡ some_fit
     unfolding test_at pick test_verdict unary_holds present
     value_not_exists h = rw (via p h)
 
-    module _ (b : Bool) (r : Fit) where
-      pub value_true : k ≡ 3 → b ≡ true_value (some v) → r ≡ fit_of (of_bool b) → r ≡ some_fit
+    module _ (b : Bool) where
+      pub value_true : k ≡ 3 → b ≡ true_value (some v) → Ok b ≡ some_fit
       unfolding test_at pick test_verdict unary_holds
-      value_true h e q = rw (via p h, ← e) q
+      value_true h e = rw (via p h, ← e) (ok_fit b)
 
-      pub value_false : k ≡ 4 → b ≡ true_value (some v) → r ≡ fit_of (of_bool (not b)) → r ≡ some_fit
+      pub value_false : k ≡ 4 → b ≡ true_value (some v) → Ok (not b) ≡ some_fit
       unfolding test_at pick test_verdict unary_holds
-      value_false h e q = rw (via p h, ← e) q
+      value_false h e = rw (via p h, ← e) (ok_fit (not b))
 
       module _ (a : Range) (x : Bytes) (e : a ≡ range_at t i 6) (f : x ≡ within a bundle) (g : b ≡ same v x) where
         same_text : b ≡ same v (within (range_at t i 6) bundle)
         same_text = g ∙ ap (same v) (f ∙ ap (λ z. within z bundle) e)
 
-        pub value_equal : k ≡ 5 → r ≡ fit_of (of_bool b) → r ≡ some_fit
+        pub value_equal : k ≡ 5 → Ok b ≡ some_fit
         unfolding test_at pick test_verdict text_holds equals
-        value_equal h q = rw (via p h, ← same_text) q
+        value_equal h = rw (via p h, ← same_text) (ok_fit b)
 
-        pub value_not_equal : k ≡ 6 → r ≡ fit_of (of_bool (not b)) → r ≡ some_fit
+        pub value_not_equal : k ≡ 6 → Ok (not b) ≡ some_fit
         unfolding test_at pick test_verdict text_holds equals
-        value_not_equal h q = rw (via p h, ← same_text) q
+        value_not_equal h = rw (via p h, ← same_text) (ok_fit (not b))
 
       module _ (y : Float) (e : y ≡ bound) (g : b ≡ same v (digits_for y)) where
         same_digits : b ≡ same v (digits_for bound)
         same_digits = g ∙ ap (λ z. same v (digits_for z)) e
 
-        pub value_digits : k ≡ 7 → r ≡ fit_of (of_bool b) → r ≡ some_fit
+        pub value_digits : k ≡ 7 → Ok b ≡ some_fit
         unfolding test_at pick test_verdict text_holds equals
-        value_digits h q = rw (via p h, ← same_digits) q
+        value_digits h = rw (via p h, ← same_digits) (ok_fit b)
 
-        pub value_not_digits : k ≡ 8 → r ≡ fit_of (of_bool (not b)) → r ≡ some_fit
+        pub value_not_digits : k ≡ 8 → Ok (not b) ≡ some_fit
         unfolding test_at pick test_verdict text_holds equals
-        value_not_digits h q = rw (via p h, ← same_digits) q
+        value_not_digits h = rw (via p h, ← same_digits) (ok_fit (not b))
 
     pub value_number :
-        (y : Float) (r : Fit)
+        (y : Float) (r : Result Bool OutOfRange)
         → Numeric k
         → y ≡ bound
         → r ≡ fit_of (number_verdict (comparison_of k) y (tag_number v))
@@ -220,8 +226,8 @@ module _ (bundle : Bytes) (t : List ℕ) (xs : List Float) (i : ℕ) where
     value_number y r h e q = rw (numeric_is (subst Numeric p h), ← p, ← e) q
 
   -- on the tag that it names
-  module _ (s : Bytes) (e : EntityRange) (v : Option Range) (g : v ≡ value_in s key (pairs_at e.count s e.tags)) (r : Fit) where
-    abbrev test_fit : Fit
+  module _ (s : Bytes) (e : EntityRange) (v : Option Range) (g : v ≡ value_in s key (pairs_at e.count s e.tags)) where
+    abbrev test_fit : Result Bool OutOfRange
     test_fit = fit_of (verdict_on (value_of s e) (test_at bundle t xs i))
 
     abbrev read : Option Range → Option' Bytes
@@ -232,16 +238,16 @@ module _ (bundle : Bytes) (t : List ℕ) (xs : List Float) (i : ℕ) where
         ap (λ o. fit_of (test_verdict (test_at bundle t xs i) o))
         (sym (ap (tag (value_of s e)) test_key_lem ∙ tag_value s key e ∙ ap read (sym g ∙ h)))
 
-    pub test_absent : v ≡ None → (k : ℕ) → k ≡ word_at t i 0 → r ≡ absent_of k → r ≡ test_fit
+    pub test_absent : v ≡ None → (k : ℕ) → k ≡ word_at t i 0 → (b : Bool) → b ≡ absent_of k → Ok b ≡ test_fit
     unfolding on_option
-    test_absent h k p q = q ∙ ap absent_of p ∙ absent_is ∙ tag_is None h
+    test_absent h k p b q = ap Ok (q ∙ ap absent_of p) ∙ absent_is ∙ tag_is None h
 
     pub test_value_lem :
-        (a : Range)
+        (r : Result Bool OutOfRange) (a : Range)
         → v ≡ Some a
         → (x : Bytes)
         → x ≡ within a s
         → r ≡ fit_of (test_verdict (test_at bundle t xs i) (some x))
         → r ≡ test_fit
     unfolding on_option
-    test_value_lem a h x f q = q ∙ ap (λ z. fit_of (test_verdict (test_at bundle t xs i) (some z))) f ∙ tag_is (Some a) h
+    test_value_lem r a h x f q = q ∙ ap (λ z. fit_of (test_verdict (test_at bundle t xs i) (some z))) f ∙ tag_is (Some a) h

@@ -7,7 +7,7 @@ ghost use Rattle.base.specs.Table.{zero_float};
 ghost use Rattle.group.specs.Pair.{pairs_at};
 ghost use Rattle.entity.specs.Layout.{value_of};
 ghost use Rattle.table.specs.Value.{word_at, range_at};
-ghost use Rattle.cascade.specs.Match.{of_bool, true_value, compares, number_verdict, test_verdict, verdict_on, tests_verdict, fits_type, at_least, at_most, verdict};
+ghost use Rattle.cascade.specs.Match.{true_value, compares, number_verdict, test_verdict, verdict_on, tests_verdict, fits_type, at_least, at_most, verdict};
 ghost use Rattle.cascade.specs.Number.{tag_number};
 ghost use Rattle.reader.specs.Tags.{value_in};
 ghost use Rattle.decode.specs.Decode.{key_at, test_at, type_at, level_at, places_in, selector_in};
@@ -16,27 +16,29 @@ ghost use Rattle.matching.specs.Matching.{fit_of, comparison_of, absent_of};
 use base::Range;
 use entity::EntityRange;
 use table::Tables;
-use tag_number::TagNumber;
+use tag_number::NumberError;
 
-// The answer to one selector or test; Out is a reached numeric test on a tag number outside the exact range.
+// A numeric test was reached on a tag number outside the exact range.
 #[derive(Clone, Copy)]
-pub enum Fit {
-    Out,
-    Misses,
-    Fits,
-}
+pub struct OutOfRange;
 
 // Whether selector i matches the entity at a zoom: its zooms, its type, then its tests in order.
-pub fn matches(tables: &Tables, zoom: u8, entity: &[u8], e: EntityRange, i: usize) -> Fit
+pub fn matches(
+    tables: &Tables,
+    zoom: u8,
+    entity: &[u8],
+    e: EntityRange,
+    i: usize,
+) -> Result<bool, OutOfRange>
     ensures { result ≡ fit_of (verdict zoom (value_of entity.now e) (selector_in tables.now.bundle.now tables.now.selectors.now tables.now.tests.now tables.now.numbers.now i)) }
 {
     if fits_zoom(tables.selectors, i, zoom) {
         if fits_type(table::word_of(tables.selectors, i, 0), e.kind) {
             return tests_fit(tables, entity, e, range_of(tables.selectors, i, 3));
         }
-        return Fit::Misses;
+        return Ok(false);
     }
-    Fit::Misses
+    Ok(false)
 }
 
 // Whether a zoom is one of selector i's; both ends are stored plus one, 0 for none.
@@ -69,25 +71,28 @@ fn fits_type(kind: usize, of: u8) -> bool
 }
 
 // The tests of a range, up to the first that does not hold.
-fn tests_fit(tables: &Tables, entity: &[u8], e: EntityRange, range: Range) -> Fit
+fn tests_fit(
+    tables: &Tables,
+    entity: &[u8],
+    e: EntityRange,
+    range: Range,
+) -> Result<bool, OutOfRange>
     ensures { result ≡ fit_of (tests_verdict (value_of entity.now e) (map (test_at tables.now.bundle.now tables.now.tests.now tables.now.numbers.now) (places_in range))) }
 {
     for k in range.from..range.to {
-        match test_fits(tables, entity, e, k) {
-            Fit::Out => return Fit::Out,
-            Fit::Misses => return Fit::Misses,
-            Fit::Fits => {}
+        if !test_fits(tables, entity, e, k)? {
+            return Ok(false);
         }
     }
-    Fit::Fits
+    Ok(true)
 }
 
 // Test i, on the tag that it names.
-fn test_fits(tables: &Tables, entity: &[u8], e: EntityRange, i: usize) -> Fit
+fn test_fits(tables: &Tables, entity: &[u8], e: EntityRange, i: usize) -> Result<bool, OutOfRange>
     ensures { result ≡ fit_of (verdict_on (value_of entity.now e) (test_at tables.now.bundle.now tables.now.tests.now tables.now.numbers.now i)) }
 {
     match tag_of(tables, entity, e, i) {
-        None => absent_fits(table::word_of(tables.tests, i, 0)),
+        None => Ok(absent_fits(table::word_of(tables.tests, i, 0))),
         Some(v) => value_fits(tables, i, base::part(entity, v)),
     }
 }
@@ -105,40 +110,34 @@ fn tag_of(tables: &Tables, entity: &[u8], e: EntityRange, i: usize) -> Option<Ra
 }
 
 // A test of a kind on a tag that the entity does not have: only the negated ones hold.
-fn absent_fits(kind: usize) -> Fit
+fn absent_fits(kind: usize) -> bool
     ensures { result ≡ absent_of kind }
 {
     match kind {
-        2 => Fit::Fits,
-        4 => Fit::Fits,
-        6 => Fit::Fits,
-        8 => Fit::Fits,
-        _ => Fit::Misses,
+        2 => true,
+        4 => true,
+        6 => true,
+        8 => true,
+        _ => false,
     }
 }
 
 // Test i on a tag's value.
-fn value_fits(tables: &Tables, i: usize, v: &[u8]) -> Fit
+fn value_fits(tables: &Tables, i: usize, v: &[u8]) -> Result<bool, OutOfRange>
     ensures { result ≡ fit_of (test_verdict (test_at tables.now.bundle.now tables.now.tests.now tables.now.numbers.now i) (some v.now)) }
 {
     let kind = table::word_of(tables.tests, i, 0);
     match kind {
-        1 => Fit::Fits,
-        2 => Fit::Misses,
-        3 => fit_of(is_true(v)),
-        4 => fit_of(!is_true(v)),
-        5 => fit_of(base::same_bytes(v, base::part(tables.bundle, range_of(tables.tests, i, 6)))),
-        6 => fit_of(!base::same_bytes(v, base::part(tables.bundle, range_of(tables.tests, i, 6)))),
-        7 => fit_of(digits::is_digits_of(v, number_of(tables, i))),
-        8 => fit_of(!digits::is_digits_of(v, number_of(tables, i))),
+        1 => Ok(true),
+        2 => Ok(false),
+        3 => Ok(is_true(v)),
+        4 => Ok(!is_true(v)),
+        5 => Ok(base::same_bytes(v, base::part(tables.bundle, range_of(tables.tests, i, 6)))),
+        6 => Ok(!base::same_bytes(v, base::part(tables.bundle, range_of(tables.tests, i, 6)))),
+        7 => Ok(digits::is_digits_of(v, number_of(tables, i))),
+        8 => Ok(!digits::is_digits_of(v, number_of(tables, i))),
         _ => number_fits(kind, number_of(tables, i), v),
     }
-}
-
-fn fit_of(holds: bool) -> Fit
-    ensures { result ≡ fit_of (of_bool holds) }
-{
-    if holds { Fit::Fits } else { Fit::Misses }
 }
 
 // Whether a value says yes.
@@ -155,13 +154,15 @@ fn is_true(v: &[u8]) -> bool
 }
 
 // A numeric test of a kind and a bound on a tag's value.
-fn number_fits(kind: usize, bound: f64, v: &[u8]) -> Fit
+fn number_fits(kind: usize, bound: f64, v: &[u8]) -> Result<bool, OutOfRange>
     ensures { result ≡ fit_of (number_verdict (comparison_of kind) bound (tag_number v.now)) }
 {
     match tag_number::tag_number(v) {
-        TagNumber::Malformed => Fit::Misses,
-        TagNumber::OutOfRange => Fit::Out,
-        TagNumber::Reads(x) => fit_of(compare(kind, x, bound)),
+        Ok(x) => Ok(compare(kind, x, bound)),
+        Err(e) => match e {
+            NumberError::Malformed => Ok(false),
+            NumberError::OutOfRange => Err(OutOfRange),
+        },
     }
 }
 

@@ -3,7 +3,8 @@ use Prim.Native.Nat.{ℕ, suc, ◌-◌, ◌≤◌, ◌<◌}
 use native.Mathlib.Omega.{arith}
 use mathlib.Core.Path.{◌≡◌, refl}
 use mathlib.Core.List.{List, [], ◌∷◌}
-use lib.Ieee.{Float, nan}
+use lib.Ieee.{Float, nan, binary64, of_bits, of_int}
+use Rattle.cascade.specs.Number.{whole}
 use lib.ListN.{length, take, drop, get_or, drop_of_length-le}
 use lib.Seq.{take_all, take-nil, drop-cons}
 use Rattle.style.specs.Get.{one_of}
@@ -14,6 +15,11 @@ pub or_else : (m : Option Float) (d : Float) → unwrap_or m d ≡ on_option m d
 unfolding on_option
 or_else None d = refl
 or_else (Some w) d = refl
+
+pub or_one : (m : Option Float) → unwrap_or m (of_bits binary64 4607182418800017408) ≡ on_option m (whole 1) (λ w. w)
+unfolding on_option of_bits of_int
+or_one None = refl
+or_one (Some w) = refl
 
 module _ (numbers : List Float) (from to : ℕ) where
   abbrev pub read : Option Float

@@ -69,17 +69,14 @@ pub fn is_word(tables: &Tables, row: &[u32], name: &[u8], word: &[u8]) -> bool
     base::same_bytes(word_of(tables.bundle, get(tables, row, name)), word)
 }
 
+#[tactic(auto, unfolding(crate::specs::Get::color_of))]
 fn color_of(bundle: &[u8], p: Option<PropertyValue>) -> Option<Color>
     ensures { result ≡ color_of bundle.now p }
 {
-    let v = p?;
-    match v {
-        PropertyValue::NoValue => None,
+    match p? {
         PropertyValue::Identifier(n) => name_color(bundle, n),
-        PropertyValue::Text(_) => None,
         PropertyValue::Shade(c) => Some(c),
-        PropertyValue::Numbers(_) => None,
-        PropertyValue::WidthDelta(_) => None,
+        _ => None,
     }
 }
 
@@ -93,17 +90,13 @@ fn name_color(bundle: &[u8], n: Name) -> Option<Color>
     }
 }
 
+#[tactic(auto, unfolding(crate::specs::Get::number_of))]
 fn number_of(numbers: &[f64], p: Option<PropertyValue>) -> Option<f64>
     ensures { result ≡ number_of numbers.now p }
 {
-    let v = p?;
-    match v {
-        PropertyValue::NoValue => None,
-        PropertyValue::Identifier(_) => None,
-        PropertyValue::Text(_) => None,
-        PropertyValue::Shade(_) => None,
+    match p? {
         PropertyValue::Numbers(r) => one_of(numbers, r),
-        PropertyValue::WidthDelta(_) => None,
+        _ => None,
     }
 }
 
@@ -129,45 +122,35 @@ fn one_of(numbers: &[f64], r: Range) -> Option<f64>
     None
 }
 
+#[tactic(auto, unfolding(crate::specs::Get::delta_of))]
 fn delta_of(p: Option<PropertyValue>) -> Option<f64>
     ensures { result ≡ delta_of p }
 {
-    let v = p?;
-    match v {
-        PropertyValue::NoValue => None,
-        PropertyValue::Identifier(_) => None,
-        PropertyValue::Text(_) => None,
-        PropertyValue::Shade(_) => None,
-        PropertyValue::Numbers(_) => None,
+    match p? {
         PropertyValue::WidthDelta(x) => Some(x),
+        _ => None,
     }
 }
 
+#[tactic(auto, unfolding(crate::specs::Get::dashes_of))]
 fn dashes_of(p: Option<PropertyValue>) -> Option<Range>
     ensures { result ≡ dashes_of p }
 {
-    let v = p?;
-    match v {
-        PropertyValue::NoValue => None,
-        PropertyValue::Identifier(_) => None,
-        PropertyValue::Text(_) => None,
-        PropertyValue::Shade(_) => None,
+    match p? {
         PropertyValue::Numbers(r) => Some(r),
-        PropertyValue::WidthDelta(_) => None,
+        _ => None,
     }
 }
 
+#[tactic(auto, unfolding(crate::specs::Get::text_of))]
 fn text_of(p: Option<PropertyValue>) -> Option<Name>
     ensures { result ≡ text_of p }
 {
-    let v = p?;
-    match v {
+    match p? {
         PropertyValue::NoValue => Some(Name::Plain(Range { from: 0, to: 0 })),
         PropertyValue::Identifier(n) => Some(n),
         PropertyValue::Text(a) => Some(Name::Plain(a)),
-        PropertyValue::Shade(_) => None,
-        PropertyValue::Numbers(_) => None,
-        PropertyValue::WidthDelta(_) => None,
+        _ => None,
     }
 }
 
@@ -209,19 +192,13 @@ fn position_named(word: &[u8]) -> Option<TextPosition>
 }
 
 // Where that identifier stands; an empty range for none.
+#[tactic(auto, unfolding(crate::specs::Get::word_range))]
 fn word_range(p: Option<PropertyValue>) -> Range
     ensures { result ≡ word_range p }
 {
     match p {
-        None => Range { from: 0, to: 0 },
-        Some(v) => match v {
-            PropertyValue::NoValue => Range { from: 0, to: 0 },
-            PropertyValue::Identifier(n) => name_range(n),
-            PropertyValue::Text(_) => Range { from: 0, to: 0 },
-            PropertyValue::Shade(_) => Range { from: 0, to: 0 },
-            PropertyValue::Numbers(_) => Range { from: 0, to: 0 },
-            PropertyValue::WidthDelta(_) => Range { from: 0, to: 0 },
-        },
+        Some(PropertyValue::Identifier(n)) => name_range(n),
+        _ => Range { from: 0, to: 0 },
     }
 }
 

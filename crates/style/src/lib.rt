@@ -21,14 +21,14 @@ pub enum StyleType {
 
 #[derive(Clone, Copy)]
 pub enum LineCap {
-    Butt,
+    Butt = 1,
     Round,
     Square,
 }
 
 #[derive(Clone, Copy)]
 pub enum TextPosition {
-    Center,
+    Center = 1,
     Line,
 }
 
@@ -141,23 +141,18 @@ fn casing_multiplier(style_type: StyleType) -> f64
 }
 
 // A number, or a delta to the base width.
+#[tactic(auto, unfolding(crate::specs::Style::casing_only, base::specs::Option::on_option))]
 fn casing_only(base: f64, one: Option<f64>, delta: Option<f64>) -> Option<f64>
     ensures { result ≡ casing_only base one delta }
 {
-    match one {
-        None => {
-            let d = delta?;
-            Some(base + d)
-        }
-        Some(w) => Some(w),
-    }
+    one.or(delta.map(|d| base + d))
 }
 
+#[tactic(auto, unfolding(crate::specs::Style::full_casing, base::specs::Option::on_option))]
 fn full_casing(multiplier: f64, base: f64, m: Option<f64>) -> Option<f64>
     ensures { result ≡ full_casing multiplier base m }
 {
-    let w = m?;
-    Some(base + multiplier * w)
+    m.map(|w| base + multiplier * w)
 }
 
 // The z-index of a layer, for an entity of a kind.
@@ -170,13 +165,11 @@ pub fn z_index(tables: &Tables, row: &[u32], kind: u8) -> f64
 fn default_z_index(kind: u8) -> f64
     ensures { result ≡ default_z kind }
 {
-    if kind == 0 {
-        return 4.0;
+    match kind {
+        0 => 4.0,
+        2 => 1.0,
+        _ => 3.0,
     }
-    if kind == 2 {
-        return 1.0;
-    }
-    3.0
 }
 
 // Whether a layer's fill is drawn in the foreground.
@@ -208,9 +201,10 @@ fn text_style(tables: &Tables, row: &[u32], settings: Settings) -> TextStyle
     }
 }
 
+#[tactic(auto, unfolding(crate::specs::Style::font_size, crate::specs::Style::multiplier_of, base::specs::Option::on_option), using(crate::proofs::GetLaws::or_one))]
 fn font_size(m: Option<f64>, settings: Settings) -> Option<f64>
     ensures { result ≡ font_size m settings }
 {
-    let x = m?;
-    Some(x * settings.font_multiplier.unwrap_or(1.0))
+    let k = settings.font_multiplier.unwrap_or(1.0);
+    m.map(|x| x * k)
 }

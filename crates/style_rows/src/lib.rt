@@ -76,27 +76,14 @@ fn float_number(m: Option<f64>) -> f64
 fn cap_number(c: Option<LineCap>) -> u64
     ensures { result ≡ cap_number c }
 {
-    match c {
-        None => 0,
-        Some(cap) => match cap {
-            LineCap::Butt => 1,
-            LineCap::Round => 2,
-            LineCap::Square => 3,
-        },
-    }
+    c.map_or(0, |cap| cap as u64)
 }
 
 #[tactic(auto, unfolding(crate::specs::Rows::position_number))]
 fn position_number(p: Option<TextPosition>) -> u64
     ensures { result ≡ position_number p }
 {
-    match p {
-        None => 0,
-        Some(position) => match position {
-            TextPosition::Center => 1,
-            TextPosition::Line => 2,
-        },
-    }
+    p.map_or(0, |position| position as u64)
 }
 
 // The 52 words of a row.

@@ -14,10 +14,10 @@ use Rattle.base.specs.Choice.{pick, by-test}
 use Rattle.cascade.specs.Number.{is_e, lower_case, negative, unsigned, digits, after_digits, spelt, with_sign, Decimal, decimals, after_decimals, exponent_of, decimal_from, decimal_of, value_of, unsigned_number, tag_number}
 use Rattle.tag_number.specs.Grown.{grown_from, whole_text, written_power, power_of, decimal}
 use Rattle.tag_number.specs.Told.{told}
-use Rattle.tag_number.specs.declared.TagNumber.{TagNumber}
-use Rattle.tag_number.specs.declared.TagNumber.TheVariants.{Malformed, Reads}
+use Rattle.tag_number.specs.declared.NumberError.{NumberError}
+use Rattle.tag_number.specs.declared.NumberError.TheVariants.{Malformed}
 use Rattle.tag_number.proofs.Saturate.{Near, near_spelt, near_both, near_value, whole_some, whole_not}
-use Rattle.std.specs.Prelude.{Option, Some, None}
+use Rattle.std.specs.Prelude.{Option, Some, None, Result, Ok, Err}
 use Rattle.base.proofs.Options.{none_some, some2_first, some2_second}
 
 -- ---- the exponent
@@ -126,16 +126,16 @@ module _
         let y : after_decimals (after_digits t) ≡ x = ap after_decimals (sym R) ∙ sym X in
         rw (sym D, f, y)
 
-    pub decimal_cut : o ≡ None → Malformed ≡ told (value_of (decimal_of s t))
+    pub decimal_cut : o ≡ None → Err Malformed ≡ told (value_of (decimal_of s t))
     unfolding decimal_from value_of told
     decimal_cut h = sym (ap (λ (n : Maybe Decimal). told (value_of n)) (parts ∙ ap (decimal_from s ds fs) (exponent_none x (sym O ∙ h))))
 
-    pub decimal_empty : length ds + length fs ≡ 0 → Malformed ≡ told (value_of (decimal_of s t))
+    pub decimal_empty : length ds + length fs ≡ 0 → Err Malformed ≡ told (value_of (decimal_of s t))
     unfolding value_of told
     decimal_empty h = sym (ap (λ (n : Maybe Decimal). told (value_of n)) (parts ∙ from_none s ds fs (exponent_of x) h))
 
     pub decimal_value :
-        (c d p : ℕ) (b : Bool) (z : TagNumber)
+        (c d p : ℕ) (b : Bool) (z : Result Float NumberError)
         → o ≡ Some (b, p)
         → (length ds + length fs ≡ 0 → ⊥)
         → c ≡ grown_from 0 ds
@@ -158,9 +158,9 @@ module _ (m : Bool) (t : Bytes) where
   abbrev lowered : Bytes
   lowered = map lower_case t
 
-  pub word_inf : (b : Bool) (x : Float) → b ≡ same lowered (ascii "inf") → b ≡ true → x ≡ inf m → Reads x ≡ told (unsigned_number m t)
+  pub word_inf : (b : Bool) (x : Float) → b ≡ same lowered (ascii "inf") → b ≡ true → x ≡ inf m → Ok x ≡ told (unsigned_number m t)
   unfolding unsigned_number told
-  word_inf b x e h q = let g : same lowered (ascii "inf") ≡ true = sym e ∙ h in rw g (ap Reads q)
+  word_inf b x e h q = let g : same lowered (ascii "inf") ≡ true = sym e ∙ h in rw g (ap Ok q)
 
   module _ (a : Bool) (A : a ≡ same lowered (ascii "inf")) (f : a ≡ false) where
     pub word_infinity :
@@ -168,15 +168,15 @@ module _ (m : Bool) (t : Bytes) where
         → b ≡ same lowered (ascii "infinity")
         → b ≡ true
         → x ≡ inf m
-        → Reads x ≡ told (unsigned_number m t)
+        → Ok x ≡ told (unsigned_number m t)
     unfolding unsigned_number told
     word_infinity b x e h q =
         let g : same lowered (ascii "infinity") ≡ true = sym e ∙ h in
         let k : same lowered (ascii "inf") ≡ false = sym A ∙ f in
-        rw (k, g) (ap Reads q)
+        rw (k, g) (ap Ok q)
 
     module _ (c : Bool) (C : c ≡ same lowered (ascii "infinity")) (i : c ≡ false) where
-      pub word_nan : (b : Bool) → b ≡ same lowered (ascii "nan") → b ≡ true → Reads nan ≡ told (unsigned_number m t)
+      pub word_nan : (b : Bool) → b ≡ same lowered (ascii "nan") → b ≡ true → Ok nan ≡ told (unsigned_number m t)
       unfolding unsigned_number told
       word_nan b e h =
           let g : same lowered (ascii "nan") ≡ true = sym e ∙ h in
@@ -185,7 +185,7 @@ module _ (m : Bool) (t : Bytes) where
           rw (k, j, g)
 
       pub word_not :
-          (b : Bool) (r : TagNumber)
+          (b : Bool) (r : Result Float NumberError)
           → b ≡ same lowered (ascii "nan")
           → b ≡ false
           → r ≡ told (value_of (decimal_of m t))
@@ -198,7 +198,7 @@ module _ (m : Bool) (t : Bytes) where
           rw (k, j, g) q
 
 pub number_is :
-    (v u : Bytes) (m : Bool) (r : TagNumber)
+    (v u : Bytes) (m : Bool) (r : Result Float NumberError)
     → u ≡ unsigned v
     → m ≡ negative v
     → r ≡ told (unsigned_number m u)

@@ -13,8 +13,9 @@ use borrow.Author.Tests.{lt-ltb, le-ltb, le-leb, lt-leb, eq-eqb, ne_eqb}
 use Rattle.cascade.specs.Number.{with_sign, whole, signed, scaled, value_of}
 use Rattle.tag_number.specs.Grown.{decimal}
 use Rattle.tag_number.specs.Told.{told}
-use Rattle.tag_number.specs.declared.TagNumber.{TagNumber}
-use Rattle.tag_number.specs.declared.TagNumber.TheVariants.{OutOfRange, Reads}
+use Rattle.tag_number.specs.declared.NumberError.{NumberError}
+use Rattle.tag_number.specs.declared.NumberError.TheVariants.{OutOfRange}
+use Rattle.std.specs.Prelude.{Result, Ok, Err}
 
 -- 10 ^ j and on, so many of them
 unfoldable pub tens_from : ℕ → ℕ → List Float
@@ -52,11 +53,11 @@ module _ (s : Bool) (d : ℕ) where
       → k ≤ 22
       → x ≡ signed s d
       → y ≡ whole (10 ^ k)
-      → Reads (mul binary64 x y) ≡ told (scaled s d (pos k))
+      → Ok (mul binary64 x y) ≡ told (scaled s d (pos k))
   unfolding scaled told
-  multiplied k x y h p q = rw (le-leb k 22 h) (ap Reads (ap (λ (z : Float). mul binary64 z y) p ∙ ap (mul binary64 (signed s d)) q))
+  multiplied k x y h p q = rw (le-leb k 22 h) (ap Ok (ap (λ (z : Float). mul binary64 z y) p ∙ ap (mul binary64 (signed s d)) q))
 
-  pub multiplied_out : (k : ℕ) → 22 < k → OutOfRange ≡ told (scaled s d (pos k))
+  pub multiplied_out : (k : ℕ) → 22 < k → Err OutOfRange ≡ told (scaled s d (pos k))
   unfolding scaled told
   multiplied_out k h = rw (lt-leb k 22 h)
 
@@ -66,13 +67,13 @@ module _ (s : Bool) (d : ℕ) where
       → k ≤ 22
       → x ≡ signed s d
       → y ≡ whole (10 ^ k)
-      → Reads (div binary64 x y) ≡ told (scaled s d (neg_ℤ (pos k)))
+      → Ok (div binary64 x y) ≡ told (scaled s d (neg_ℤ (pos k)))
   unfolding scaled told
   divided zero x y z h p q = absurd (z refl)
   divided (suc k) x y z h p q =
-      rw (le-leb (suc k) 22 h) (ap Reads (ap (λ (w : Float). div binary64 w y) p ∙ ap (div binary64 (signed s d)) q))
+      rw (le-leb (suc k) 22 h) (ap Ok (ap (λ (w : Float). div binary64 w y) p ∙ ap (div binary64 (signed s d)) q))
 
-  pub divided_out : (k : ℕ) → 22 < k → OutOfRange ≡ told (scaled s d (neg_ℤ (pos k)))
+  pub divided_out : (k : ℕ) → 22 < k → Err OutOfRange ≡ told (scaled s d (neg_ℤ (pos k)))
   unfolding scaled told
   divided_out zero h = absurd (omega arith)
   divided_out (suc k) h = rw (lt-leb (suc k) 22 h)
@@ -80,14 +81,14 @@ module _ (s : Bool) (d : ℕ) where
   -- the exponent ± p less n
   module _ (t : Bool) (p n : ℕ) where
     pub scaled_below :
-        (r : TagNumber)
+        (r : Result Float NumberError)
         → t ≡ true
         → r ≡ told (scaled s d (neg_ℤ (pos (p + n))))
         → r ≡ told (scaled s d (with_sign t p -ℤ pos n))
     scaled_below r h e = e ∙ sym (ap (λ (i : ℤ). told (scaled s d i)) (ap (λ (u : Bool). with_sign u p -ℤ pos n) h ∙ power_below p n))
 
     pub scaled_down :
-        (r : TagNumber)
+        (r : Result Float NumberError)
         → t ≡ false
         → p < n
         → r ≡ told (scaled s d (neg_ℤ (pos (n - p))))
@@ -95,26 +96,26 @@ module _ (s : Bool) (d : ℕ) where
     scaled_down r h l e = e ∙ sym (ap (λ (i : ℤ). told (scaled s d i)) (ap (λ (u : Bool). with_sign u p -ℤ pos n) h ∙ power_down p n l))
 
     pub scaled_up :
-        (r : TagNumber)
+        (r : Result Float NumberError)
         → t ≡ false
         → n ≤ p
         → r ≡ told (scaled s d (pos (p - n)))
         → r ≡ told (scaled s d (with_sign t p -ℤ pos n))
     scaled_up r h l e = e ∙ sym (ap (λ (i : ℤ). told (scaled s d i)) (ap (λ (u : Bool). with_sign u p -ℤ pos n) h ∙ power_up p n l))
 
-    pub scaled_far : t ≡ true → 22 < p → OutOfRange ≡ told (scaled s d (with_sign t p -ℤ pos n))
-    scaled_far h l = scaled_below OutOfRange h (divided_out (p + n) (omega arith))
+    pub scaled_far : t ≡ true → 22 < p → Err OutOfRange ≡ told (scaled s d (with_sign t p -ℤ pos n))
+    scaled_far h l = scaled_below (Err OutOfRange) h (divided_out (p + n) (omega arith))
 
   -- the digits
   module _ (e : ℤ) where
-    pub value_zero : (x : Float) → d ≡ 0 → x ≡ signed s 0 → Reads x ≡ told (value_of (some (decimal s d e)))
+    pub value_zero : (x : Float) → d ≡ 0 → x ≡ signed s 0 → Ok x ≡ told (value_of (some (decimal s d e)))
     unfolding value_of told
-    value_zero x h q = rw (eq-eqb d 0 h) (ap Reads q)
+    value_zero x h q = rw (eq-eqb d 0 h) (ap Ok q)
 
-    pub value_scaled : (r : TagNumber) → (d ≡ 0 → ⊥) → d < 2 ^ 53 → r ≡ told (scaled s d e) → r ≡ told (value_of (some (decimal s d e)))
+    pub value_scaled : (r : Result Float NumberError) → (d ≡ 0 → ⊥) → d < 2 ^ 53 → r ≡ told (scaled s d e) → r ≡ told (value_of (some (decimal s d e)))
     unfolding value_of
     value_scaled r h l q = rw (ne_eqb d 0 h, lt-ltb d (2 ^ 53) l) q
 
-    pub value_out : (d ≡ 0 → ⊥) → 2 ^ 53 ≤ d → OutOfRange ≡ told (value_of (some (decimal s d e)))
+    pub value_out : (d ≡ 0 → ⊥) → 2 ^ 53 ≤ d → Err OutOfRange ≡ told (value_of (some (decimal s d e)))
     unfolding value_of told
     value_out h l = rw (ne_eqb d 0 h, le-ltb d (2 ^ 53) l)

@@ -1,3 +1,2 @@
-pub mod Elim
 pub mod Told
 pub mod Grown

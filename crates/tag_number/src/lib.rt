@@ -11,12 +11,11 @@ ghost use Rattle.tag_number.specs.Grown.{grown, grown_from, whole_text, written_
 
 use base::Range;
 
-// What a tag's value reads as, where a number is asked for.
+// Why a tag's value gives no number.
 #[derive(Clone, Copy)]
-pub enum TagNumber {
+pub enum NumberError {
     Malformed,
     OutOfRange,
-    Reads(f64),
 }
 
 // 10 ^ 0 to 10 ^ 22, which are exact.
@@ -47,7 +46,7 @@ const TENS: [f64; 23] = [
 ];
 
 // The number that a tag's value spells, as Rust reads an f64, where one operation on exact operands gives it.
-pub fn tag_number(v: &[u8]) -> TagNumber
+pub fn tag_number(v: &[u8]) -> Result<f64, NumberError>
     ensures { result ≡ told (tag_number v.now) }
 {
     unsigned_number(after_sign(v), is_negative(v))
@@ -91,17 +90,17 @@ fn layer_below(n: u64) -> Option<i64>
 }
 
 // What stands behind the sign: a word or a decimal.
-fn unsigned_number(t: &[u8], minus: bool) -> TagNumber
+fn unsigned_number(t: &[u8], minus: bool) -> Result<f64, NumberError>
     ensures { result ≡ told (unsigned_number minus t.now) }
 {
     if is_word(t, b"inf") {
-        return TagNumber::Reads(infinite(minus));
+        return Ok(infinite(minus));
     }
     if is_word(t, b"infinity") {
-        return TagNumber::Reads(infinite(minus));
+        return Ok(infinite(minus));
     }
     if is_word(t, b"nan") {
-        return TagNumber::Reads(f64::NAN);
+        return Ok(f64::NAN);
     }
     decimal_number(t, minus)
 }
@@ -139,22 +138,20 @@ fn lower(b: u8) -> u8
 }
 
 // Digits, a dot and digits, and an exponent.
-fn decimal_number(t: &[u8], minus: bool) -> TagNumber
+fn decimal_number(t: &[u8], minus: bool) -> Result<f64, NumberError>
     ensures { result ≡ told (value_of (decimal_of minus t.now)) }
 {
     let ds = first_digits(t);
     let r = after_digits(t);
     let fs = decimal_digits(r);
-    match power_of(after_decimals(r)) {
-        None => TagNumber::Malformed,
-        Some((down, p)) => {
-            let n = fs.len();
-            if ds.len() + n == 0 {
-                return TagNumber::Malformed;
-            }
-            value_of(minus, spell(fs, spell(ds, 0)), down, p, n)
-        }
+    let Some((down, p)) = power_of(after_decimals(r)) else {
+        return Err(NumberError::Malformed);
+    };
+    let n = fs.len();
+    if ds.len() + n == 0 {
+        return Err(NumberError::Malformed);
     }
+    value_of(minus, spell(fs, spell(ds, 0)), down, p, n)
 }
 
 // The sign and the digits of a number that a float holds as they are.
@@ -166,27 +163,27 @@ struct Significand {
 }
 
 // The number of digits d and the exponent ± p less n decimals.
-fn value_of(minus: bool, d: u64, down: bool, p: u64, n: usize) -> TagNumber
+fn value_of(minus: bool, d: u64, down: bool, p: u64, n: usize) -> Result<f64, NumberError>
     requires { n < 2 ^ 63 }
     ensures { result ≡ told (value_of (some (decimal minus d (with_sign down p -ℤ pos n)))) }
 {
     if d == 0 {
-        return TagNumber::Reads(with_sign(Significand { minus, d: 0 }));
+        return Ok(with_sign(Significand { minus, d: 0 }));
     }
     if d < 9007199254740992 {
         return scale(Significand { minus, d }, down, p, n as u64);
     }
-    TagNumber::OutOfRange
+    Err(NumberError::OutOfRange)
 }
 
 // x times ten to the exponent ± p less n.
-fn scale(x: Significand, down: bool, p: u64, n: u64) -> TagNumber
+fn scale(x: Significand, down: bool, p: u64, n: u64) -> Result<f64, NumberError>
     requires { n < 2 ^ 63 }
     ensures { result ≡ told (scaled x.minus x.d (with_sign down p -ℤ pos n)) }
 {
     if down {
         if 22 < p {
-            return TagNumber::OutOfRange;
+            return Err(NumberError::OutOfRange);
         }
         return divide(x, p + n);
     }
@@ -197,26 +194,26 @@ fn scale(x: Significand, down: bool, p: u64, n: u64) -> TagNumber
 }
 
 // One multiplication of exact operands.
-fn multiply(x: Significand, k: u64) -> TagNumber
+fn multiply(x: Significand, k: u64) -> Result<f64, NumberError>
     ensures { result ≡ told (scaled x.minus x.d (pos k)) }
 {
     if k <= 22 {
-        return TagNumber::Reads(with_sign(x) * ten(k as usize));
+        return Ok(with_sign(x) * ten(k as usize));
     }
-    TagNumber::OutOfRange
+    Err(NumberError::OutOfRange)
 }
 
 // One division of exact operands; by 10 ^ 0 it is the multiplication.
-fn divide(x: Significand, k: u64) -> TagNumber
+fn divide(x: Significand, k: u64) -> Result<f64, NumberError>
     ensures { result ≡ told (scaled x.minus x.d (neg_ℤ (pos k))) }
 {
     if k == 0 {
         return multiply(x, 0);
     }
     if k <= 22 {
-        return TagNumber::Reads(with_sign(x) / ten(k as usize));
+        return Ok(with_sign(x) / ten(k as usize));
     }
-    TagNumber::OutOfRange
+    Err(NumberError::OutOfRange)
 }
 
 // 10 ^ k.

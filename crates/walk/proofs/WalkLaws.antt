@@ -20,8 +20,7 @@ use Rattle.valid.specs.Valid.{entries_held, counts_held, tables_sound}
 use Rattle.valid.specs.declared.Counts.{Counts}
 use Rattle.decode.specs.Decode.{name_at, places}
 use Rattle.matching.specs.Matching.{fit_of}
-use Rattle.matching.specs.declared.Fit.{Fit}
-use Rattle.matching.specs.declared.Fit.TheVariants.{Out, Misses, Fits}
+use Rattle.matching.specs.declared.OutOfRange.{OutOfRange}
 use Rattle.walk.proofs.LayerLaws.{told_stop, told_going, bind_stop, bind_going, one_less, none_left}
 use Rattle.walk.specs.Run.{Run, stop, going, told, seek, step_of, on_verdict, hit_of, selectors_of, rule_of, rules_of}
 use Rattle.walk.specs.Maps.{no_rows, finish, walk_of, maps_of, layer_place}
@@ -78,19 +77,19 @@ rule_is name layer verdict_of rules t n r s end from to a b c d = rw (a, b, c, d
 
 -- ---- one selector
 
-abbrev on_fit : Fit → Run → Run → Run
-on_fit Fits a b = a
-on_fit Misses a b = b
-on_fit Out a b = stop 8
+abbrev on_fit : Result Bool OutOfRange → Run → Run → Run
+on_fit (Ok true) a b = a
+on_fit (Ok false) a b = b
+on_fit (Err x) a b = stop 8
 
 fit_run : (v : Verdict) (a b : Run) → on_fit (fit_of v) a b ≡ on_verdict v a b
 fit_run pass a b = refl
 fit_run fail a b = refl
 fit_run out a b = refl
 
-module _ (name layer : ℕ → Bytes) (verdict_of : ℕ → Verdict) (t : List ℕ) (n s : ℕ) (ps : List ℕ) (f : Fit)
+module _ (name layer : ℕ → Bytes) (verdict_of : ℕ → Verdict) (t : List ℕ) (n s : ℕ) (ps : List ℕ) (f : Result Bool OutOfRange)
     (e : f ≡ fit_of (verdict_of s)) (x : Run) where
-  pub hit : (k : Fit) → f ≡ k → x ≡ on_fit k (step_of name layer t n s ps) (going n t) → x ≡ hit_of name layer verdict_of t n s ps
+  pub hit : (k : Result Bool OutOfRange) → f ≡ k → x ≡ on_fit k (step_of name layer t n s ps) (going n t) → x ≡ hit_of name layer verdict_of t n s ps
   unfolding hit_of
   hit k y q =
       q

@@ -4,8 +4,7 @@ ghost use Rattle.decode.specs.Decode.{name_at, places};
 ghost use Rattle.walk.specs.Selectors.{layer_in};
 ghost use Rattle.walk.specs.Run.{told, assign_at, assign_all, seek, new_row, touch_of, step_of};
 
-use crate::names::is_layer;
-use base::Range;
+use crate::names::{is_layer, layer_name};
 use base::refusal::{TOO_MANY_LAYERS, TOO_MANY_NAMES};
 use std::marker::Model;
 use table::Tables;
@@ -44,22 +43,12 @@ pub fn find_named(bundle: &[u8], selectors: &[u32], t: &[u32], n: Layers, name: 
 fn find_layer(tables: &Tables, t: &[u32], n: Layers, s: u32) -> usize
     ensures { result ≡ seek (layer_in tables.now.bundle.now tables.now.selectors.now) t.now (layer_in tables.now.bundle.now tables.now.selectors.now s) 0 n }
 {
-    let i = s as usize;
-    if table::word_of(tables.selectors, i, 5) != 1 {
-        return find_named(tables.bundle, tables.selectors, t, n, b"default");
-    }
     find_named(
         tables.bundle,
         tables.selectors,
         t,
         n,
-        base::part(
-            tables.bundle,
-            Range {
-                from: table::word_of(tables.selectors, i, 6),
-                to: table::word_of(tables.selectors, i, 7),
-            },
-        ),
+        layer_name(tables.bundle, tables.selectors, s),
     )
 }
 

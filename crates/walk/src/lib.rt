@@ -11,7 +11,7 @@ use base::refusal::{Refusal, TABLE_BROKEN, TAG_NUMBER};
 use base::{word_at, zero_words};
 use entity::{EntityRange, single_entity};
 use layers::Layers;
-use matching::{Fit, matches};
+use matching::matches;
 use table::Tables;
 use valid::{Counts, is_sound};
 
@@ -160,9 +160,11 @@ fn visit(
 ) -> Result<Layers, usize>
     ensures { told result t.new ≡ hit_of (name_at tables.now.bundle.now tables.now.properties.now) (layer_in tables.now.bundle.now tables.now.selectors.now) (verdict_in tables.now.bundle.now tables.now.selectors.now tables.now.tests.now tables.now.numbers.now zoom entity.now e) t.old n s (places from (to - from)) }
 {
-    match matches(tables, zoom, entity, e, s as usize) {
-        Fit::Out => Err(TAG_NUMBER),
-        Fit::Misses => Ok(n),
-        Fit::Fits => layers::step(tables, t, n, s, from, to),
+    let Ok(fits) = matches(tables, zoom, entity, e, s as usize) else {
+        return Err(TAG_NUMBER);
+    };
+    if !fits {
+        return Ok(n);
     }
+    layers::step(tables, t, n, s, from, to)
 }

@@ -33,22 +33,26 @@ pub fn find_name(bundle: &[u8], properties: &[u32], row: &[u32], name: &[u8]) ->
     row.len()
 }
 
+// The name of selector s's layer.
+pub fn layer_name<'a>(bundle: &'a [u8], selectors: &[u32], s: u32) -> &'a [u8]
+    ensures { result.now ≡ layer_in bundle.now selectors.now s }
+{
+    let i = s as usize;
+    if table::word_of(selectors, i, 5) != 1 {
+        return b"default";
+    }
+    base::part(
+        bundle,
+        Range {
+            from: table::word_of(selectors, i, 6),
+            to: table::word_of(selectors, i, 7),
+        },
+    )
+}
+
 // Whether selector s is of the layer of this name.
 pub fn is_layer(bundle: &[u8], selectors: &[u32], s: u32, name: &[u8]) -> bool
     ensures { result ≡ same name.now (layer_in bundle.now selectors.now s) }
 {
-    let i = s as usize;
-    if table::word_of(selectors, i, 5) != 1 {
-        return base::same_bytes(name, b"default");
-    }
-    base::same_bytes(
-        name,
-        base::part(
-            bundle,
-            Range {
-                from: table::word_of(selectors, i, 6),
-                to: table::word_of(selectors, i, 7),
-            },
-        ),
-    )
+    base::same_bytes(name, layer_name(bundle, selectors, s))
 }

@@ -6,11 +6,9 @@ use Rattle.line.proofs.property_line.Goals as goal
 pub returns : goal.returns
 returns c = let a =
     c.args in
-    property_done a.out.now a.bundle.now a.properties.now (get_or a.maps.now (a.i * 131 + 2 + a.j) 0) _ _ _ _
+    property_done a.out.now a.bundle.now a.properties.now (get_or a.maps.now (a.i * 131 + 2 + a.j) 0) _ _
     c.property_number-p.ensures
-    c.word_of.ensures
-    c.word_of-2.ensures
-    c.part.ensures
+    c.name_of.ensures
     c.put_bytes-n.ensures
     c.put_number-m.ensures
     c.put_byte.ensures

@@ -1,34 +1,29 @@
 use mathlib.Core.Path.{◌∙◌, ap}
-use Rattle.cascade.specs.Match.{of_bool}
+use Rattle.std.specs.Prelude.{Ok, Err}
 use Rattle.cascade.specs.Number.{tag_number}
-use Rattle.tag_number.specs.Elim.{on-TagNumber}
-use Rattle.matching.specs.Matching.{fit_of, comparison_of}
+use Rattle.matching.specs.Matching.{comparison_of}
 use Rattle.matching.proofs.Tests.{number_fit_lem}
 use Rattle.matching.proofs.number_fits.Goals as goal
 
 pub returns-in-Malformed : goal.returns-in-Malformed
-unfolding on-TagNumber
 returns-in-Malformed c = number_fit_lem
     (comparison_of c.args.kind)
     c.args.bound
     (tag_number c.args.v.now) _ _ c.tag_number.ensures
-    c.in-Malformed.is
+    (c.in-Err.is ∙ ap Err c.in-Malformed.is)
 
 pub returns-in-OutOfRange : goal.returns-in-OutOfRange
-unfolding on-TagNumber
 returns-in-OutOfRange c = number_fit_lem
     (comparison_of c.args.kind)
     c.args.bound
     (tag_number c.args.v.now) _ _ c.tag_number.ensures
-    c.in-OutOfRange.is
+    (c.in-Err.is ∙ ap Err c.in-OutOfRange.is)
 
-pub returns-in-Reads : goal.returns-in-Reads
-unfolding on-TagNumber
-returns-in-Reads c = c.fit_of.ensures
-    ∙ ap (λ b. fit_of (of_bool b)) c.compare.ensures
+pub returns-in-Ok : goal.returns-in-Ok
+returns-in-Ok c = ap Ok c.compare.ensures
     ∙ number_fit_lem
     (comparison_of c.args.kind)
     c.args.bound
     (tag_number c.args.v.now) _ _
     c.tag_number.ensures
-    c.in-Reads.is
+    c.in-Ok.is

@@ -9,8 +9,8 @@ returns-in-None c = test_absent
     c.args.i
     c.args.entity.now
     c.args.e _
-    c.tag_of.ensures _ c.in-None.is _
-    c.word_of.ensures c.absent_fits.ensures
+    c.tag_of.ensures c.in-None.is _
+    c.word_of.ensures _ c.absent_fits.ensures
 
 pub returns-in-Some : goal.returns-in-Some
 returns-in-Some c = test_value_lem

@@ -26,8 +26,8 @@ returns-in-3 c = value_true
     c.args.tables.now.numbers.now
     c.args.i
     c.args.v.now _
-    c.word_of-kind.ensures _ _ c.in-3.is
-    c.is_true.ensures c.fit_of.ensures
+    c.word_of-kind.ensures _ c.in-3.is
+    c.is_true.ensures
 
 pub returns-in-4 : goal.returns-in-4
 returns-in-4 c = value_false
@@ -36,8 +36,8 @@ returns-in-4 c = value_false
     c.args.tables.now.numbers.now
     c.args.i
     c.args.v.now _
-    c.word_of-kind.ensures _ _ c.in-4.is
-    c.is_true-in-4.ensures c.fit_of-in-4.ensures
+    c.word_of-kind.ensures _ c.in-4.is
+    c.is_true-in-4.ensures
 
 pub returns-in-5 : goal.returns-in-5
 returns-in-5 c = value_equal
@@ -46,9 +46,9 @@ returns-in-5 c = value_equal
     c.args.tables.now.numbers.now
     c.args.i
     c.args.v.now _
-    c.word_of-kind.ensures _ _ _ _
+    c.word_of-kind.ensures _ _ _
     c.range_of.ensures c.part.ensures
-    c.same_bytes.ensures c.in-5.is c.fit_of-in-5.ensures
+    c.same_bytes.ensures c.in-5.is
 
 pub returns-in-6 : goal.returns-in-6
 returns-in-6 c = value_not_equal
@@ -57,9 +57,9 @@ returns-in-6 c = value_not_equal
     c.args.tables.now.numbers.now
     c.args.i
     c.args.v.now _
-    c.word_of-kind.ensures _ _ _ _
+    c.word_of-kind.ensures _ _ _
     c.range_of-in-6.ensures c.part-in-6.ensures
-    c.same_bytes-in-6.ensures c.in-6.is c.fit_of-in-6.ensures
+    c.same_bytes-in-6.ensures c.in-6.is
 
 pub returns-in-7 : goal.returns-in-7
 returns-in-7 c = value_digits
@@ -68,8 +68,8 @@ returns-in-7 c = value_digits
     c.args.tables.now.numbers.now
     c.args.i
     c.args.v.now _
-    c.word_of-kind.ensures _ _ _ c.number_of.ensures
-    c.is_digits_of.ensures c.in-7.is c.fit_of-in-7.ensures
+    c.word_of-kind.ensures _ _ c.number_of.ensures
+    c.is_digits_of.ensures c.in-7.is
 
 pub returns-in-8 : goal.returns-in-8
 returns-in-8 c = value_not_digits
@@ -78,8 +78,8 @@ returns-in-8 c = value_not_digits
     c.args.tables.now.numbers.now
     c.args.i
     c.args.v.now _
-    c.word_of-kind.ensures _ _ _ c.number_of-in-8.ensures
-    c.is_digits_of-in-8.ensures c.in-8.is c.fit_of-in-8.ensures
+    c.word_of-kind.ensures _ _ c.number_of-in-8.ensures
+    c.is_digits_of-in-8.ensures c.in-8.is
 
 pub returns-in_default : goal.returns-in_default
 returns-in_default c = value_number

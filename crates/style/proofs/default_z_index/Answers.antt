@@ -1,17 +1,21 @@
 use lib.Ieee.{of_bits, of_int}
-use borrow.Author.Tests.{eq-eqb, ne_eqb}
+use borrow.Author.Tests.{ne_eqb}
 use Rattle.base.specs.Choice.{pick}
 use Rattle.style.specs.Style.{default_z}
 use Rattle.style.proofs.default_z_index.Goals as goal
 
-pub returns-then-kind-eq0 : goal.returns-then-kind-eq0
+pub returns-in-0 : goal.returns-in-0
 unfolding default_z pick of_bits of_int
-returns-then-kind-eq0 c = simp (eq-eqb _ _ c.if-kind-eq0.true)
+returns-in-0 c = rw c.in-0.is
 
-pub returns-then-kind-eq2 : goal.returns-then-kind-eq2
+pub returns-in-2 : goal.returns-in-2
 unfolding default_z pick of_bits of_int
-returns-then-kind-eq2 c = simp (eq-eqb _ _ c.if-kind-eq2.true, ne_eqb _ _ c.if-kind-eq0.false)
+returns-in-2 c = rw c.in-2.is
 
-pub returns : goal.returns
+pub returns-in_default : goal.returns-in_default
 unfolding default_z pick of_bits of_int
-returns c = simp (ne_eqb _ _ c.if-kind-eq2.false, ne_eqb _ _ c.if-kind-eq0.false)
+returns-in_default c = let k = c.args.kind in
+    rw (
+      ne_eqb k 0 c.in_default.in_default-own.rest.0.1,
+      ne_eqb k 2 c.in_default.in_default-own.rest.1,
+    )

@@ -12,18 +12,18 @@ returns-then-ds-n-eq0 c = decimal_empty
     c.after_decimals.ensures
     c.power_of.ensures c.if-ds-n-eq0.true
 
-pub returns-in-None : goal.returns-in-None
-returns-in-None c = decimal_cut
+pub returns-in_default : goal.returns-in_default
+returns-in_default c = decimal_cut
     c.args.minus
     c.args.t.now _ _ _ _ _
     c.first_digits-ds.ensures
     c.after_digits-r.ensures
     c.decimal_digits-fs.ensures
     c.after_decimals.ensures c.power_of.ensures
-    c.in-None.is
+    c.in_default.is
 
-pub returns-else-ds-n-eq0 : goal.returns-else-ds-n-eq0
-returns-else-ds-n-eq0 c = decimal_value
+pub returns : goal.returns
+returns c = decimal_value
     c.args.minus
     c.args.t.now _ _ _ _ _
     c.first_digits-ds.ensures
@@ -32,4 +32,4 @@ returns-else-ds-n-eq0 c = decimal_value
     c.after_decimals.ensures
     c.power_of.ensures _ _ _ _ _
     c.in-Some.is c.if-ds-n-eq0.false
-    c.spell.ensures c.spell-in-Some.ensures (search rules) c.value_of.ensures
+    c.spell.ensures c.spell-2.ensures (search rules) c.value_of.ensures

@@ -14,15 +14,15 @@ loop-i-preserved-then-is_layer c = let a = c.args in let t = a.tables.now in
     c.word_at.ensures _ c.is_layer.ensures l.invariant
     c.if-is_layer.true
 
-pub returns-then-z : goal.returns-then-z
-returns-then-z c = let a = c.args in let t = a.tables.now in
+pub returns-then-is_nan : goal.returns-then-is_nan
+returns-then-is_nan c = let a = c.args in let t = a.tables.now in
     let l = c.loop-i in
     nan_found t.bundle.now t.selectors.now t.properties.now t.numbers.now a.maps.now a.m a.kind
     l.i
     c.loop-i-test.true _
     c.word_at.ensures _
     c.is_layer.ensures l.invariant c.if-is_layer.false
-    _ c.row_of.ensures _ c.z_index-z.ensures c.if-z.true
+    _ c.row_of.ensures _ c.z_index.ensures (simp (← c.is_nan.ensures.value, c.if-is_nan.true))
 
 pub loop-i-preserved : goal.loop-i-preserved
 loop-i-preserved c = let a = c.args in let t = a.tables.now in
@@ -33,7 +33,7 @@ loop-i-preserved c = let a = c.args in let t = a.tables.now in
     c.word_at.ensures _
     c.is_layer.ensures l.invariant
     c.if-is_layer.false
-    _ c.row_of.ensures _ c.z_index-z.ensures c.if-z.false
+    _ c.row_of.ensures _ c.z_index.ensures (simp (← c.is_nan.ensures.value, c.if-is_nan.false))
 
 pub returns : goal.returns
 returns c = let a = c.args in let t = a.tables.now in

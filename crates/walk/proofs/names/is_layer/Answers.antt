@@ -1,22 +1,6 @@
-use mathlib.Core.Path.{sym, ◌∙◌, ap}
+use mathlib.Core.Path.{◌∙◌, ap}
 use Rattle.base.specs.Bytes.{same}
-use Rattle.walk.proofs.LayerLaws.{default_layer, named_layer}
 use Rattle.walk.proofs.names.is_layer.Goals as goal
 
-pub returns-then-word_of-ne1 : goal.returns-then-word_of-ne1
-returns-then-word_of-ne1 c = let a = c.args in
-    c.same_bytes.ensures
-    ∙ ap (same a.name.now)
-    (sym
-    (default_layer a.bundle.now a.selectors.now a.s _ c.word_of.ensures
-    c.if-word_of-ne1.true))
-
 pub returns : goal.returns
-returns c = let a = c.args in
-    c.same_bytes-2.ensures
-    ∙ ap (same a.name.now)
-    (named_layer a.bundle.now a.selectors.now a.s _
-    c.word_of.ensures
-    c.if-word_of-ne1.false _ _ _
-    c.word_of-2.ensures c.word_of-3.ensures
-    c.part.ensures)
+returns c = c.same_bytes.ensures ∙ ap (same c.args.name.now) c.layer_name.ensures
