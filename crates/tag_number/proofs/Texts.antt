@@ -4,15 +4,17 @@ use native.Mathlib.Numerals.{add-one}
 use native.Mathlib.Nat.{add-zero}
 use native.Mathlib.Omega.{arith}
 use mathlib.Core.Path.{◌≡◌, refl, sym, ◌∙◌, ap}
-use mathlib.Core.Bool.{Bool, true, false}
+use mathlib.Core.Bool.{Bool, true, false, not}
 use mathlib.Core.List.{[], ◌∷◌, ◌++◌, map}
-use lib.Dec.{eqb}
+use lib.Dec.{eqb, ltb}
 use lib.ListN.{length, get_or, take, drop, drop_of_length-le, length-append, length-map}
 use lib.Seq.{drop-cons, take-append_seam, drop-append_seam}
-use borrow.Author.Tests.{eq-eqb, ne_eqb}
+use borrow.Author.Tests.{eq-eqb, ne_eqb, ltb-false}
 use Rattle.base.specs.Bytes.{Bytes, same}
 use Rattle.base.specs.Choice.{by-test}
 use Rattle.base.proofs.Compare.{same_lengths}
+use Rattle.std.specs.List.{prefix_len}
+use Rattle.std.specs.Prelude.{position, unwrap_or}
 use Rattle.cascade.specs.Number.{is_digit, lower_case, negative, unsigned, digits, after_digits, decimals, after_decimals}
 use Rattle.tag_number.specs.Grown.{whole_text}
 
@@ -162,3 +164,18 @@ module _ (a w : Bytes) (i : ℕ) where
     word_next h =
         let n : eqb (lower_case (get_or a i 0)) (get_or w i 0) ≡ true = eq-eqb _ _ (sym e ∙ h) in
         rw (add-one, drop-cons a i 0 p, drop-cons w i 0 q, n)
+
+-- the digits end where the first byte is that is none
+digits_prefix : (s : Bytes) → prefix_len (λ b. not (not (is_digit b))) s ≡ length (digits s)
+unfolding digits
+digits_prefix [] = refl
+digits_prefix (b ∷ s) = let p = digits_prefix s in by-test (is_digit b) (λ h. rw h (omega arith)) (λ h. rw h)
+
+pub count_position : (s : Bytes) → unwrap_or (position (λ b. not (is_digit b)) s) (length s) ≡ length (digits s)
+count_position s =
+    let p = digits_prefix s in
+    let a = ap length (digits_split s) in
+    let l = length-append (digits s) (after_digits s) in
+    by-test (ltb (prefix_len (λ b. not (not (is_digit b))) s) (length s))
+    (λ e. rw e p)
+    (λ e. let h = ltb-false _ _ e in rw e (omega arith))
