@@ -1,10 +1,9 @@
 -- Signs, digits, dots and words of a text, as the code goes through them.
 use Prim.Native.Nat.{ℕ, ◌+◌, ◌<◌, ◌≤◌}
 use native.Mathlib.Numerals.{add-one}
-use native.Mathlib.Nat.{add-zero}
 use native.Mathlib.Omega.{arith}
 use mathlib.Core.Path.{◌≡◌, refl, sym, ◌∙◌, ap}
-use mathlib.Core.Bool.{Bool, true, false, not}
+use mathlib.Core.Bool.{true, false, not}
 use mathlib.Core.List.{[], ◌∷◌, ◌++◌, map}
 use lib.Dec.{eqb, ltb}
 use lib.ListN.{length, get_or, take, drop, drop_of_length-le, length-append, length-map}
@@ -103,27 +102,6 @@ digits_taken s = ap (take (length (digits s))) (digits_split s) ∙ take-append_
 
 pub digits_dropped : (s : Bytes) → drop (length (digits s)) s ≡ after_digits s
 digits_dropped s = ap (drop (length (digits s))) (digits_split s) ∙ drop-append_seam (digits s) (after_digits s)
-
--- counting them, one by one
-module _ (s : Bytes) (i : ℕ) where
-  pub count_end : length s ≤ i → i ≡ i + length (digits (drop i s))
-  unfolding digits
-  count_end h = rw (drop_of_length-le s h) (sym (add-zero i))
-
-  pub count_stop : (t : Bool) → i < length s → t ≡ is_digit (get_or s i 0) → t ≡ false → i ≡ i + length (digits (drop i s))
-  unfolding digits
-  count_stop t h e f = let g : is_digit (get_or s i 0) ≡ false = sym e ∙ f in rw (drop-cons s i 0 h, g) (sym (add-zero i))
-
-  pub count_more :
-      (t : Bool)
-      → i < length s
-      → t ≡ is_digit (get_or s i 0)
-      → t ≡ true
-      → i + 1 + length (digits (drop (i + 1) s)) ≡ i + length (digits (drop i s))
-  unfolding digits
-  count_more t h e f =
-      let g : is_digit (get_or s i 0) ≡ true = sym e ∙ f in
-      rw (drop-cons s i 0 h, g, add-one) (omega arith)
 
 -- a text that is all digits
 pub whole_none : (s : Bytes) → length s ≡ 0 → false ≡ whole_text s
