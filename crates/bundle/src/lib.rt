@@ -14,8 +14,8 @@ pub fn check_bundle(bundle: &[u8]) -> Result<usize, Refusal>
     ensures { result ≡ check_of bundle.now }
 {
     if is_bundle(bundle) {
-        let count = text_count(bundle);
-        if group::pairs_utf8(bundle, first_text(bundle), count) {
+        let (count, first) = header(bundle);
+        if group::pairs_utf8(bundle, first, count) {
             return Ok(count);
         }
         return Err(Refusal::plain(base::refusal::NOT_UTF8));
@@ -27,8 +27,7 @@ pub fn check_bundle(bundle: &[u8]) -> Result<usize, Refusal>
 pub fn text_at(bundle: &[u8], k: usize) -> Option<(Range, Range)>
     ensures { result ≡ nth_of (ranges_of bundle.now) k }
 {
-    let count = text_count(bundle);
-    let first = first_text(bundle);
+    let (count, first) = header(bundle);
     group::nth_pair(bundle, first, count, k)
 }
 
@@ -36,28 +35,17 @@ pub fn text_at(bundle: &[u8], k: usize) -> Option<(Range, Range)>
 pub fn find_text(bundle: &[u8], name: &[u8]) -> Option<(usize, Range)>
     ensures { result ≡ find_of bundle.now name.now }
 {
-    let count = text_count(bundle);
-    let first = first_text(bundle);
+    let (count, first) = header(bundle);
     find_from(bundle, first, count, name)
 }
 
-// How many texts the bundle says that it holds; 0 where it does not say so.
-fn text_count(bundle: &[u8]) -> usize
-    ensures { result ≡ count_of bundle.now }
+// How many texts the bundle says that it holds, and the place of the first; 0 and 0 where it does not say so.
+fn header(bundle: &[u8]) -> (usize, usize)
+    ensures { result ≡ (count_of bundle.now, first_at bundle.now) }
 {
     match group::number_at(bundle, 0, 64) {
-        None => 0,
-        Some((n, _)) => n as usize,
-    }
-}
-
-// The place of the first text.
-fn first_text(bundle: &[u8]) -> usize
-    ensures { result ≡ first_at bundle.now }
-{
-    match group::number_at(bundle, 0, 64) {
-        None => 0,
-        Some((_, next)) => next,
+        None => (0, 0),
+        Some((n, first)) => (n as usize, first),
     }
 }
 
@@ -68,11 +56,10 @@ fn is_bundle(bundle: &[u8]) -> bool
     if 1048576 < bundle.len() {
         return false;
     }
-    let count = text_count(bundle);
+    let (count, first) = header(bundle);
     if count == 0 {
         return false;
     }
-    let first = first_text(bundle);
     group::skip_pairs(bundle, first, count) == Some(bundle.len())
         && good_names(bundle, first, count)
 }

@@ -1,18 +1,19 @@
 -- Signs, digits, dots and words of a text, as the code goes through them.
 use Prim.Native.Nat.{ℕ, ◌+◌, ◌<◌, ◌≤◌}
 use native.Mathlib.Numerals.{add-one}
-use native.Mathlib.Nat.{add-zero}
 use native.Mathlib.Omega.{arith}
 use mathlib.Core.Path.{◌≡◌, refl, sym, ◌∙◌, ap}
-use mathlib.Core.Bool.{Bool, true, false}
+use mathlib.Core.Bool.{true, false, not}
 use mathlib.Core.List.{[], ◌∷◌, ◌++◌, map}
-use lib.Dec.{eqb}
+use lib.Dec.{eqb, ltb}
 use lib.ListN.{length, get_or, take, drop, drop_of_length-le, length-append, length-map}
 use lib.Seq.{drop-cons, take-append_seam, drop-append_seam}
-use borrow.Author.Tests.{eq-eqb, ne_eqb}
+use borrow.Author.Tests.{eq-eqb, ne_eqb, ltb-false}
 use Rattle.base.specs.Bytes.{Bytes, same}
 use Rattle.base.specs.Choice.{by-test}
 use Rattle.base.proofs.Compare.{same_lengths}
+use Rattle.std.specs.List.{prefix_len}
+use Rattle.std.specs.Prelude.{position, unwrap_or}
 use Rattle.cascade.specs.Number.{is_digit, lower_case, negative, unsigned, digits, after_digits, decimals, after_decimals}
 use Rattle.tag_number.specs.Grown.{whole_text}
 
@@ -102,27 +103,6 @@ digits_taken s = ap (take (length (digits s))) (digits_split s) ∙ take-append_
 pub digits_dropped : (s : Bytes) → drop (length (digits s)) s ≡ after_digits s
 digits_dropped s = ap (drop (length (digits s))) (digits_split s) ∙ drop-append_seam (digits s) (after_digits s)
 
--- counting them, one by one
-module _ (s : Bytes) (i : ℕ) where
-  pub count_end : length s ≤ i → i ≡ i + length (digits (drop i s))
-  unfolding digits
-  count_end h = rw (drop_of_length-le s h) (sym (add-zero i))
-
-  pub count_stop : (t : Bool) → i < length s → t ≡ is_digit (get_or s i 0) → t ≡ false → i ≡ i + length (digits (drop i s))
-  unfolding digits
-  count_stop t h e f = let g : is_digit (get_or s i 0) ≡ false = sym e ∙ f in rw (drop-cons s i 0 h, g) (sym (add-zero i))
-
-  pub count_more :
-      (t : Bool)
-      → i < length s
-      → t ≡ is_digit (get_or s i 0)
-      → t ≡ true
-      → i + 1 + length (digits (drop (i + 1) s)) ≡ i + length (digits (drop i s))
-  unfolding digits
-  count_more t h e f =
-      let g : is_digit (get_or s i 0) ≡ true = sym e ∙ f in
-      rw (drop-cons s i 0 h, g, add-one) (omega arith)
-
 -- a text that is all digits
 pub whole_none : (s : Bytes) → length s ≡ 0 → false ≡ whole_text s
 unfolding whole_text
@@ -162,3 +142,18 @@ module _ (a w : Bytes) (i : ℕ) where
     word_next h =
         let n : eqb (lower_case (get_or a i 0)) (get_or w i 0) ≡ true = eq-eqb _ _ (sym e ∙ h) in
         rw (add-one, drop-cons a i 0 p, drop-cons w i 0 q, n)
+
+-- the digits end where the first byte is that is none
+digits_prefix : (s : Bytes) → prefix_len (λ b. not (not (is_digit b))) s ≡ length (digits s)
+unfolding digits
+digits_prefix [] = refl
+digits_prefix (b ∷ s) = let p = digits_prefix s in by-test (is_digit b) (λ h. rw h (omega arith)) (λ h. rw h)
+
+pub count_position : (s : Bytes) → unwrap_or (position (λ b. not (is_digit b)) s) (length s) ≡ length (digits s)
+count_position s =
+    let p = digits_prefix s in
+    let a = ap length (digits_split s) in
+    let l = length-append (digits s) (after_digits s) in
+    by-test (ltb (prefix_len (λ b. not (not (is_digit b))) s) (length s))
+    (λ e. rw e p)
+    (λ e. let h = ltb-false _ _ e in rw e (omega arith))

@@ -263,12 +263,7 @@ fn is_digit(b: u8) -> bool
 fn digit_count(v: &[u8]) -> usize
     ensures { result ≡ length (digits v.now) }
 {
-    for i in 0..v.len() {
-        if !is_digit(v[i]) {
-            return i;
-        }
-    }
-    v.len()
+    v.iter().position(|b| !is_digit(*b)).unwrap_or(v.len())
 }
 
 fn first_digits(v: &[u8]) -> &[u8]

@@ -38,21 +38,15 @@ fn read_hex_digits(s: &[u8], c: Cursor) -> Hex
     let mut d = c;
     let mut count = 0;
     let mut value = 0;
-    loop {
-        match read_digit(s, 16, d) {
-            None => {
-                return Hex {
-                    count,
-                    value,
-                    end: d,
-                };
-            }
-            Some((digit, e)) => {
-                count = bump(count);
-                value = hex_added(value, digit);
-                d = e;
-            }
-        }
+    while let Some((digit, e)) = read_digit(s, 16, d) {
+        count = bump(count);
+        value = hex_added(value, digit);
+        d = e;
+    }
+    Hex {
+        count,
+        value,
+        end: d,
     }
 }
 

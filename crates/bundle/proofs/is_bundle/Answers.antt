@@ -1,3 +1,4 @@
+use mathlib.Core.Path.{ap}
 use Rattle.bundle.proofs.Check.{bundle_long, bundle_none, bundle_there, bundle_elsewhere}
 use Rattle.bundle.proofs.is_bundle.Goals as goal
 
@@ -5,10 +6,10 @@ pub returns-then-bundle-gt1048576 : goal.returns-then-bundle-gt1048576
 returns-then-bundle-gt1048576 c = bundle_long c.args.bundle.now c.if-bundle-gt1048576.true
 
 pub returns-then-count-eq0 : goal.returns-then-count-eq0
-returns-then-count-eq0 c = bundle_none c.args.bundle.now c.if-bundle-gt1048576.false _ c.text_count-count.ensures c.if-count-eq0.true
+returns-then-count-eq0 c = bundle_none c.args.bundle.now c.if-bundle-gt1048576.false _ (ap (λ r. r.0) c.header-count.ensures) c.if-count-eq0.true
 
 pub returns-then-eq : goal.returns-then-eq
-returns-then-eq c = bundle_there c.args.bundle.now c.if-bundle-gt1048576.false _ c.text_count-count.ensures c.if-count-eq0.false _ c.first_text-first.ensures _ _ c.skip_pairs.ensures c.eq.ensures _ c.if-eq.true c.good_names.ensures
+returns-then-eq c = bundle_there c.args.bundle.now c.if-bundle-gt1048576.false _ (ap (λ r. r.0) c.header-count.ensures) c.if-count-eq0.false _ (ap (λ r. r.1) c.header-count.ensures) _ _ c.skip_pairs.ensures c.eq.ensures _ c.if-eq.true c.good_names.ensures
 
 pub returns-else-eq : goal.returns-else-eq
-returns-else-eq c = bundle_elsewhere c.args.bundle.now c.if-bundle-gt1048576.false _ c.text_count-count.ensures c.if-count-eq0.false _ c.first_text-first.ensures _ _ c.skip_pairs.ensures c.eq.ensures c.if-eq.false
+returns-else-eq c = bundle_elsewhere c.args.bundle.now c.if-bundle-gt1048576.false _ (ap (λ r. r.0) c.header-count.ensures) c.if-count-eq0.false _ (ap (λ r. r.1) c.header-count.ensures) _ _ c.skip_pairs.ensures c.eq.ensures c.if-eq.false

@@ -1,20 +1,14 @@
-use native.Mathlib.Nat.{zero-add}
-use native.Mathlib.Omega.{arith}
-use mathlib.Core.Path.{◌∙◌}
-use borrow.Author.Tests.{not-true, not-false}
-use Rattle.tag_number.proofs.Texts.{count_end, count_stop, count_more}
-use Rattle.std.proofs.Common.{ap}
+use borrow.Author.Tests.{tests}
 use mathlib.Core.Bool.{not}
+use mathlib.Core.Path.{◌∙◌, ap}
+use lib.ListN.{length}
+use Rattle.std.proofs.Common.{rules}
+use Rattle.std.proofs.lemmas.Iterator.{YieldsList-from_slice}
+use Rattle.std.proofs.lemmas.Iterator.Search.{position_from_yields_List}
+use Rattle.std.specs.Prelude.{unwrap_or}
+use Rattle.cascade.specs.Number.{is_digit}
+use Rattle.tag_number.proofs.Texts.{count_position}
 use Rattle.tag_number.proofs.digit_count.Goals as goal
 
-pub returns-then-not-is_digit : goal.returns-then-not-is_digit
-returns-then-not-is_digit c = count_stop c.args.v.now c.loop-i.i _ (omega arith) c.is_digit.ensures (not-true _ (ap not c.if-not-is_digit.true)) ∙ c.loop-i.invariant
-
-pub loop-i-init : goal.loop-i-init
-loop-i-init c = zero-add _
-
-pub loop-i-preserved : goal.loop-i-preserved
-loop-i-preserved c = count_more c.args.v.now c.loop-i.i _ (omega arith) c.is_digit.ensures (not-false _ (ap not c.if-not-is_digit.false)) ∙ c.loop-i.invariant
-
 pub returns : goal.returns
-returns c = omega arith ∙ count_end c.args.v.now c.loop-i.i (omega arith) ∙ c.loop-i.invariant
+returns c = c.unwrap_or.ensures ∙ ap (λ o. unwrap_or o (length c.args.v.now)) (position_from_yields_List (λ b. not (is_digit b)) _ _ _ c.position.ensures.ran (YieldsList-from_slice c.args.v.now cc) (λ x b q k. search (rules, tests))) ∙ count_position c.args.v.now

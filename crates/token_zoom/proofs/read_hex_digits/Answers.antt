@@ -11,8 +11,8 @@ pub loop-digit-init : goal.loop-digit-init
 unfolding read_hex_digits
 loop-digit-init c = going_start _ _ _ _ _ (omega arith)
 
-pub returns-in-None : goal.returns-in-None
-returns-in-None c = going_done _ _ _ _ _ _ c.loop-digit.invariant (sym (option_none _ _ _ (via c.read_digit.ensures c.in-None.is) refl))
+pub returns : goal.returns
+returns c = going_done _ _ _ _ _ _ c.loop-digit.invariant (sym (option_none _ _ _ (via c.read_digit.ensures c.in_default.is) refl))
 
 pub loop-digit-smaller : goal.loop-digit-smaller
 loop-digit-smaller c = search digit_on
