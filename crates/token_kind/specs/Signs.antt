@@ -1,5 +1,5 @@
 -- Signs of two letters and of one: tables, searched in order.
-use Rattle.std.specs.Prelude.{ℕ, Bool, false, List, [], ◌∷◌, eqb, get_or, Option, Some, None}
+use Rattle.std.specs.Prelude.{ℕ, Bool, false, List, [], ◌∷◌, eqb, get_or, Option, Some, None, position}
 use Rattle.base.specs.Bytes.{Bytes, ascii}
 use Rattle.base.specs.Choice.{pick}
 use Rattle.token_kind.specs.declared.Token.{Token}
@@ -76,3 +76,19 @@ first_letter (e ∷ es) k = pick (eqb k (get_or e.letters 0 0)) (Some e.token) (
 
 unfoldable pub get_one_char_simple_token : ℕ → Option Token
 get_one_char_simple_token k = first_letter one_letter k
+
+-- As the code goes about it: the place of the pair in a table of pairs alone, then the sign at that place.
+abbrev pub pairs : List Bytes
+pairs = ascii "!=" ∷ ascii "<=" ∷ ascii ">=" ∷ ascii "=~" ∷ ascii "::" ∷ []
+
+unfoldable pub place_of_pair : ℕ → ℕ → Option ℕ
+place_of_pair a b = position (is_pair a b) pairs
+
+unfoldable pub sign_of_pair : ℕ → Option Token
+sign_of_pair i =
+    pick (eqb i 0) (Some NotEqual)
+    (pick (eqb i 1) (Some LessOrEqual)
+    (pick (eqb i 2) (Some GreaterOrEqual)
+    (pick (eqb i 3) (Some RegexMatch)
+    (pick (eqb i 4) (Some DoubleColon)
+    None))))

@@ -1,19 +1,40 @@
 // Signs of two letters and of one.
 ghost use Rattle.std.specs.Prelude.{◌≡◌};
-ghost use Rattle.token_kind.specs.Signs.{get_two_char_simple_token, get_one_char_simple_token};
+ghost use Rattle.token_kind.specs.Signs.{is_pair, place_of_pair, sign_of_pair, get_two_char_simple_token, get_one_char_simple_token};
 
 use crate::Token;
 
 // != <= >= =~ ::
+const TWO_LETTER: [[u8; 2]; 5] = [[33, 61], [60, 61], [62, 61], [61, 126], [58, 58]];
+
 pub fn get_two_char_simple_token(fst: u32, snd: u32) -> Option<Token>
     ensures { result ≡ get_two_char_simple_token fst snd }
 {
-    match (fst, snd) {
-        (33, 61) => Some(Token::NotEqual),
-        (60, 61) => Some(Token::LessOrEqual),
-        (62, 61) => Some(Token::GreaterOrEqual),
-        (61, 126) => Some(Token::RegexMatch),
-        (58, 58) => Some(Token::DoubleColon),
+    sign_of_pair(place_of_pair(fst, snd)?)
+}
+
+// The place of the first pair in the table that is fst snd.
+fn place_of_pair(fst: u32, snd: u32) -> Option<usize>
+    ensures { result ≡ place_of_pair fst snd }
+{
+    TWO_LETTER.iter().position(|p| is_pair(*p, fst, snd))
+}
+
+fn is_pair(p: [u8; 2], fst: u32, snd: u32) -> bool
+    ensures { result ≡ is_pair fst snd p }
+{
+    p[0] as u32 == fst && p[1] as u32 == snd
+}
+
+fn sign_of_pair(i: usize) -> Option<Token>
+    ensures { result ≡ sign_of_pair i }
+{
+    match i {
+        0 => Some(Token::NotEqual),
+        1 => Some(Token::LessOrEqual),
+        2 => Some(Token::GreaterOrEqual),
+        3 => Some(Token::RegexMatch),
+        4 => Some(Token::DoubleColon),
         _ => None,
     }
 }

@@ -1,48 +1,12 @@
-use Rattle.std.proofs.Common.{arith}
-use Rattle.base.specs.Choice.{pick}
-use Rattle.token_kind.specs.Signs.{is_pair, first_pair, get_two_char_simple_token}
+use mathlib.Core.Path.{◌∙◌}
+use Rattle.base.specs.Choice.{via}
+use Rattle.base.specs.Option.{option_none, option_some}
+use Rattle.token_kind.proofs.Pairs.{sign_first}
+use Rattle.token_kind.specs.Signs.{sign_of_pair}
 use Rattle.token_kind.proofs.signs.get_two_char_simple_token.Goals as goal
 
-pub returns-in-33-eq61 : goal.returns-in-33-eq61
-unfolding get_two_char_simple_token first_pair is_pair pick
-returns-in-33-eq61 c = grind arith
+pub returns : goal.returns
+returns c = option_some _ _ _ (via c.place_of_pair.ensures c.in_ok-place_of_pair.was) c.sign_of_pair.ensures ∙ sign_first _ _
 
-pub returns-in-60-eq61 : goal.returns-in-60-eq61
-unfolding get_two_char_simple_token first_pair is_pair pick
-returns-in-60-eq61 c = grind arith
-
-pub returns-in-62-eq61 : goal.returns-in-62-eq61
-unfolding get_two_char_simple_token first_pair is_pair pick
-returns-in-62-eq61 c = grind arith
-
-pub returns-in-61-eq126 : goal.returns-in-61-eq126
-unfolding get_two_char_simple_token first_pair is_pair pick
-returns-in-61-eq126 c = grind arith
-
-pub returns-in-58-eq58 : goal.returns-in-58-eq58
-unfolding get_two_char_simple_token first_pair is_pair pick
-returns-in-58-eq58 c = grind arith
-
-pub returns-in_default : goal.returns-in_default
-unfolding get_two_char_simple_token first_pair is_pair pick
-returns-in_default c = grind arith
-
-pub returns-in_default-2 : goal.returns-in_default-2
-unfolding get_two_char_simple_token first_pair is_pair pick
-returns-in_default-2 c = grind arith
-
-pub returns-in_default-3 : goal.returns-in_default-3
-unfolding get_two_char_simple_token first_pair is_pair pick
-returns-in_default-3 c = grind arith
-
-pub returns-in_default-4 : goal.returns-in_default-4
-unfolding get_two_char_simple_token first_pair is_pair pick
-returns-in_default-4 c = grind arith
-
-pub returns-in_default-5 : goal.returns-in_default-5
-unfolding get_two_char_simple_token first_pair is_pair pick
-returns-in_default-5 c = grind arith
-
-pub returns-in_default-6 : goal.returns-in_default-6
-unfolding get_two_char_simple_token first_pair is_pair pick
-returns-in_default-6 c = grind arith
+pub returns-in_err-place_of_pair : goal.returns-in_err-place_of_pair
+returns-in_err-place_of_pair c = option_none _ _ sign_of_pair (via c.place_of_pair.ensures c.in_err-place_of_pair.was) c.from_residual.ensures ∙ sign_first _ _
