@@ -51,6 +51,14 @@ recolored_out t i c h =
     let d : length t ≤ i * 8 + 3 + 1 + 1 = omega arith in
     rw (set_out t (i * 8 + 3) c.r a, set_out t (i * 8 + 3 + 1) c.g b, set_out t (i * 8 + 3 + 1 + 1) c.b d) refl
 
+pub has_name :
+    (bundle : Bytes) (t : List ℕ) (i from to : ℕ) (p name : Bytes)
+    → from ≡ word_at t i 1
+    → to ≡ word_at t i 2
+    → p ≡ within (record { from = from; to = to }) bundle
+    → same name p ≡ same name (within (range_at t i 1) bundle)
+has_name bundle t i from to p name e f g = ap (same name) (g ∙ rw (e, f) refl)
+
 module _ (bundle name : Bytes) (t : List ℕ) (n i : ℕ) where
   turn : i < n → place_from bundle name t i (n - i) ≡ place_from bundle name t i (suc (n - (i + 1)))
   turn h = ap (place_from bundle name t i) (let e : n - i ≡ suc (n - (i + 1)) = omega arith in e)

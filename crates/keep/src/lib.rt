@@ -12,7 +12,7 @@ use base::refusal::Refusal;
 use base::{Range, set_word};
 use color::Color;
 use cursor::Cursor;
-use table::{Name, PropertyValue, range_of};
+use table::{Name, PropertyValue, word_of};
 
 // How many entries each table holds, and the first of those that no entry has taken yet: a selector takes the tests since the
 // last one, a rule the selectors and properties, a test and a property the numbers.
@@ -202,5 +202,7 @@ pub fn find_color(bundle: &[u8], colors: &[u32], n: usize, name: Range) -> Optio
 fn has_name(bundle: &[u8], colors: &[u32], i: usize, name: &[u8]) -> bool
     ensures { result ≡ same name.now (within (range_at colors.now i 1) bundle.now) }
 {
-    base::same_bytes(name, base::part(bundle, range_of(colors, i, 1)))
+    let from = word_of(colors, i, 1);
+    let to = word_of(colors, i, 2);
+    base::same_bytes(name, base::part(bundle, Range { from, to }))
 }

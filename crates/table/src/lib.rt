@@ -72,7 +72,7 @@ pub fn color_at(t: &[u32], i: usize) -> Color
 }
 
 // Words j and j + 1 of entry i, as a range.
-pub fn range_of(t: &[u32], i: usize, j: usize) -> Range
+fn range_of(t: &[u32], i: usize, j: usize) -> Range
     requires { j < 7 }
     ensures { result ≡ range_at t.now i j }
 {

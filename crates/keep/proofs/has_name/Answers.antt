@@ -1,6 +1,6 @@
-use mathlib.Core.Path.{ap, ◌∙◌}
-use Rattle.base.specs.Bytes.{same, within}
+use Rattle.keep.proofs.KeepLaws.{has_name}
+use mathlib.Core.Path.{◌∙◌}
 use Rattle.keep.proofs.has_name.Goals as goal
 
 pub returns : goal.returns
-returns c = c.same_bytes.ensures ∙ ap (same c.args.name.now) (c.part.ensures ∙ ap (λ r. within r c.args.bundle.now) c.range_of.ensures)
+returns c = c.same_bytes.ensures ∙ has_name c.args.bundle.now c.args.colors.now c.args.i _ _ _ _ c.word_of-from.ensures c.word_of-to.ensures c.part.ensures
