@@ -27,10 +27,9 @@ def functions():
             if not e:
                 continue
             i = m.start() + e.start()
-            j = s.find('\n}', i)
-            k = s.find('\n    }', i)
-            if re.search(r'(^|\n)    [^\n]*$', s[:m.start()]) and s[:m.start()].endswith('    '):
-                j = k
+            line = s[s.rfind('\n', 0, m.start()) + 1:m.start()]
+            indent = line[:len(line) - len(line.lstrip())]
+            j = s.find(f'\n{indent}}}', i)
             yield f, m.group(1), s[m.start():i], s[i:j]
 
 
@@ -55,7 +54,7 @@ def point1():
             yield f'{short(f)} {m.group(1)}: a flag with a value beside it'
         for m in re.finditer(r'^\s*(?:pub )?(step|kind|sort): (u8|usize),', text(f), re.M):
             yield f'{short(f)} {m.group(0).strip()} a number for a kind'
-        for m in re.finditer(r'^pub const (\w+): usize', text(f), re.M):
+        for m in re.finditer(r'^pub const (\w+): usize', text(f) if f.endswith('refusal.rt') else '', re.M):
             yield f'{short(f)} const {m.group(1)}: a number for a refusal'
 
 

@@ -6,7 +6,6 @@ ghost use Rattle.base.specs.Table.{stored};
 ghost use Rattle.answer_words.specs.Words.{refused, counted};
 
 use base::refusal::Refusal;
-use base::store;
 
 // 0 or the refusal's number, and the words that go with it: six of a load, else five.
 #[derive(Clone, Copy)]
@@ -22,13 +21,7 @@ pub fn refused(x: Refusal) -> Answer<5>
 {
     Answer {
         kind: x.number as u64,
-        words: [
-            x.number as u64,
-            x.reason as u64,
-            x.text as u64,
-            x.line as u64,
-            x.character as u64,
-        ],
+        words: x.numbers(),
     }
 }
 
@@ -45,7 +38,5 @@ pub fn counted(n: usize) -> Answer<5>
 pub fn store_words(out: &mut [u64], words: &[u64])
     ensures { out.new ≡ stored out.old 0 words.now }
 {
-    for i in 0..words.len() {
-        store(out, i, words[i]);
-    }
+    base::store_all(out, 0, words);
 }

@@ -1,30 +1,27 @@
 // What each answer is in numbers.
 #![tactic(auto)]
 
-ghost use Rattle.std.specs.Prelude.{◌≡◌};
-ghost use Rattle.answers.specs.Answers.{told_load, told_count, count_of, told_color, told_canvas};
+ghost use Rattle.std.specs.Prelude.{◌≡◌, ◌≤◌, length};
+ghost use Rattle.answers.specs.Answers.{told_load, told_count, told_styles, styled_layers, told_color, told_canvas};
 
 use answer_words::{Answer, counted, refused};
 use base::refusal::Refusal;
 use color::Color;
 use parser::Counts;
+use styles::{EntityStyles, StyledLayer};
 
 #[tactic(auto, unfolding(crate::specs::Answers::told_load))]
 pub fn told_load(loaded: Result<Counts, Refusal>) -> Answer<6>
     ensures { result ≡ told_load loaded }
 {
     match loaded {
-        Err(x) => Answer {
-            kind: x.number as u64,
-            words: [
-                x.number as u64,
-                x.reason as u64,
-                x.text as u64,
-                x.line as u64,
-                x.character as u64,
-                0,
-            ],
-        },
+        Err(x) => {
+            let [number, reason, text, line, character] = x.numbers();
+            Answer {
+                kind: number,
+                words: [number, reason, text, line, character, 0],
+            }
+        }
         Ok(n) => Answer {
             kind: 0,
             words: [
@@ -39,7 +36,7 @@ pub fn told_load(loaded: Result<Counts, Refusal>) -> Answer<6>
     }
 }
 
-// What an answer that is a count tells: of maps and of styles the layers, of a list the entries.
+// What an answer that is a count tells: of maps the layers, of a list the entries.
 #[tactic(auto, unfolding(crate::specs::Answers::told_count))]
 pub fn told_count(q: Result<usize, Refusal>) -> Answer<5>
     ensures { result ≡ told_count q }
@@ -50,12 +47,27 @@ pub fn told_count(q: Result<usize, Refusal>) -> Answer<5>
     }
 }
 
-// How many layers are styled: none after a refusal.
-#[tactic(auto, unfolding(crate::specs::Answers::count_of))]
-pub fn count_of(q: Result<usize, Refusal>) -> usize
-    ensures { result ≡ count_of q }
+// What an answer of styles tells: how many layers are styled.
+#[tactic(auto, unfolding(crate::specs::Answers::told_styles))]
+pub fn told_styles(q: &Result<EntityStyles, Refusal>) -> Answer<5>
+    ensures { result ≡ told_styles q.now }
 {
-    q.unwrap_or(0)
+    match q {
+        Err(x) => refused(*x),
+        Ok(s) => counted(s.count),
+    }
+}
+
+// The styled layers: none after a refusal.
+#[tactic(auto, unfolding(crate::specs::Answers::styled_layers))]
+pub fn styled_layers(q: &Result<EntityStyles, Refusal>) -> &[StyledLayer]
+    ensures layers { result.now ≡ styled_layers q.now }
+    ensures few { length result.now ≤ 32 }
+{
+    match q {
+        Err(_) => &[],
+        Ok(s) => s.styled(),
+    }
 }
 
 #[tactic(auto, unfolding(crate::specs::Answers::told_canvas))]

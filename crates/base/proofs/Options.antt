@@ -1,7 +1,7 @@
 -- What an Option or a Result is, by cases, and what two equal ones hold.
-use Rattle.std.specs.Prelude.{◌≡◌, ℕ, Option, Some, None, Result, Ok, Err, IsErr, IsErrAnd, is_ok, ok_or}
+use Rattle.std.specs.Prelude.{◌≡◌, ℕ, Option, Some, None, Result, Ok, Err, IsErr, IsErrAnd, MatchResult, is_ok, ok_or}
 use Rattle.std.specs.Result.{result_ok}
-use Rattle.std.proofs.Common.{refl, sym, ap, ◌∙◌, true≢false, arith}
+use Rattle.std.proofs.Common.{refl, sym, ap, subst, ◌∙◌, true≢false, arith}
 use Rattle.base.specs.Option.{on_option, on_option2, on_result, on_result2}
 
 -- the two cases, each with its equation
@@ -93,6 +93,24 @@ or_none e h = e ∙ ap result_ok h
 pub or_err : {A E : Type 0} (x : Option A) {r : Result A E} {d d' : E} → r ≡ ok_or x d' → r ≡ Err d → d ≡ d'
 or_err None e h = let p = sym h ∙ e in cc
 or_err (Some a) e h = absurd (true≢false (ap is_ok (sym e ∙ h)))
+
+-- what a result is behind `map_err(..)?`, and the error that is handed on
+pub mapped_ok :
+    {A D E : Type 0} (x : Result A D) (r : Result A E) (P : D → E → Type 0) {a : A}
+    → MatchResult x (λ b. r ≡ Ok b) (λ d. IsErrAnd r (P d))
+    → r ≡ Ok a
+    → x ≡ Ok a
+mapped_ok (Ok b) r P h e = let p = sym h ∙ e in cc
+mapped_ok (Err d) r P h e = absurd (subst (λ r. IsErrAnd r (P d)) e h)
+
+pub mapped_err :
+    {A D E : Type 0} (x : Result A D) (r : Result A E) (P : D → E → Type 0) (f : D → E) {e : E}
+    → ((d : D) (e : E) → P d e → e ≡ f d)
+    → MatchResult x (λ b. r ≡ Ok b) (λ d. IsErrAnd r (P d))
+    → r ≡ Err e
+    → (d : D) × ((x ≡ Err d) × (e ≡ f d))
+mapped_err (Ok b) r P f p h e = absurd (true≢false (ap is_ok (sym h ∙ e)))
+mapped_err (Err d) r P f p h e = (d, (refl, p d _ (subst (λ r. IsErrAnd r (P d)) e h)))
 
 -- what is no Some, as behind `let Some(..) = .. else`
 pub not_some : {A : Type 0} (x : Option A) → ((a : A) → x ≡ Some a → ⊥) → x ≡ None

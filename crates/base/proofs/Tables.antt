@@ -1,11 +1,15 @@
 -- The laws of a lent table, over any element type and any stride.
 use mathlib.Core.Path.{◌≡◌, refl, sym, ap, ◌∙◌}
 use mathlib.Core.List.{List, [], ◌∷◌, ◌++◌, append_assoc, append-nil}
-use Prim.Native.Nat.{ℕ, zero, suc, ◌+◌, ◌-◌, ◌*◌, ◌/◌, ◌≤◌, ◌<◌}
+use mathlib.Core.Bool.{Bool, true, false}
+use Prim.Native.Nat.{ℕ, zero, suc, ◌+◌, ◌-◌, ◌*◌, ◌/◌, ◌≤◌, ◌<◌, min}
 use native.Mathlib.Nat.{sub_self, add-zero, sub-zero}
 use native.Mathlib.Numerals.{add-one}
 use native.Mathlib.Omega.{arith}
-use lib.ListN.{get_or, drop_of_length-le, length, replicate, set, drop, length-append, length-replicate, length-set}
+use lib.Dec.{leb}
+use lib.ListN.{get_or, drop_of_length-le, length, replicate, set, take, drop, length-append, length-replicate, length-set, length-take, length-drop, take-append-drop}
+use borrow.Author.Tests.{leb-true, leb-false}
+use Rattle.std.proofs.lemmas.List.{set_past}
 use lib.Seq.{set_at, drop-cons}
 use Rattle.base.specs.Table.{padded, stored, flat, capacity_of}
 
@@ -82,6 +86,74 @@ module _ {A : Type 0} where
   pub length_stored : (t : List A) (i : ℕ) (vs : List A) → length (stored t i vs) ≡ length t
   length_stored t i [] = refl
   length_stored t i (v ∷ vs) = length_stored (set t i v) (i + 1) vs ∙ length-set t i v
+
+  pub stored_append :
+      (t : List A) (i : ℕ) (xs ys : List A)
+      → stored t i (xs ++ ys) ≡ stored (stored t i xs) (i + length xs) ys
+  stored_append t i [] ys = ap (λ (j : ℕ). stored t j ys) (omega arith)
+  stored_append t i (x ∷ xs) ys =
+      stored_append (set t i x) (i + 1) xs ys
+      ∙ ap (λ (j : ℕ). stored (stored (set t i x) (i + 1) xs) j ys) (omega arith)
+
+  -- elements that fit, stored behind the first i
+  pub stored_at :
+      (p q : List A) (i : ℕ) (vs : List A)
+      → length p ≡ i
+      → length vs ≤ length q
+      → stored (p ++ q) i vs ≡ p ++ (vs ++ drop (length vs) q)
+  stored_at p q i [] e h = refl
+  stored_at p [] i (v ∷ vs) e h = absurd (omega arith)
+  stored_at p (y ∷ q) i (v ∷ vs) e h =
+      let l : length (p ++ (v ∷ [])) ≡ i + 1 = length-append p (v ∷ []) ∙ omega arith in
+      ap (λ (t : List A). stored t (i + 1) vs) (set_at p y q v i e ∙ sym (append_assoc p (v ∷ []) q))
+      ∙ stored_at (p ++ (v ∷ [])) q (i + 1) vs l (omega arith)
+      ∙ append_assoc p (v ∷ []) (vs ++ drop (length vs) q)
+
+  -- a part of the list overwritten is its elements stored
+  pub part_stored :
+      (t xs : List A) {us : List A} (at : ℕ)
+      → at + length xs ≤ length t
+      → us ≡ xs
+      → take at t ++ (us ++ drop (at + length xs - at) (drop at t)) ≡ stored t at xs
+  part_stored t xs at h e =
+      let n : at + length xs - at ≡ length xs = omega arith in
+      let l : length (take at t) ≡ at = length-take at t ∙ omega arith in
+      let q : length xs ≤ length (drop at t) = omega (arith, length-drop at t) in
+      ap (λ (us : List A). take at t ++ (us ++ drop (at + length xs - at) (drop at t))) e
+      ∙ ap (λ (k : ℕ). take at t ++ (xs ++ drop k (drop at t))) n
+      ∙ sym (stored_at (take at t) (drop at t) at xs l q)
+      ∙ ap (λ (t : List A). stored t at xs) (take-append-drop at t)
+
+  -- past the end nothing is stored
+  pub stored_past : (t : List A) (i : ℕ) (xs : List A) → length t ≤ i → stored t i xs ≡ t
+  stored_past t i [] h = refl
+  stored_past t i (x ∷ xs) h = rw (set_past t i x h) (stored_past t (i + 1) xs (omega arith))
+
+  -- elements stored from a place on, as far as there is room
+  pub room_stored :
+      (t xs : List A) {us : List A} (at n : ℕ)
+      → at < length t
+      → n ≡ min (length xs) (length t - at)
+      → us ≡ take n xs
+      → take at t ++ (us ++ drop (at + n - at) (drop at t)) ≡ stored t at xs
+  room_stored t xs {us} at n h e q =
+      let l : length (take n xs) ≡ n = length-take n xs ∙ omega arith in
+      ap (λ (k : ℕ). take at t ++ (us ++ drop (at + k - at) (drop at t))) (sym l)
+      ∙ part_stored t (take n xs) at (omega arith) q
+      ∙ sym (left (leb (length xs) (length t - at)) refl)
+      ∙ sym (stored_append t at (take n xs) (drop n xs))
+      ∙ ap (stored t at) (take-append-drop n xs)
+    where
+      u : List A
+      u = stored t at (take n xs)
+
+      left : (b : Bool) → b ≡ leb (length xs) (length t - at) → stored u (at + length (take n xs)) (drop n xs) ≡ u
+      left true q =
+          let f = leb-true (length xs) (length t - at) (sym q) in
+          ap (stored u (at + length (take n xs))) (drop_of_length-le xs (omega arith))
+      left false q =
+          let f = leb-false (length xs) (length t - at) (sym q) in
+          stored_past u (at + length (take n xs)) (drop n xs) (omega (arith, length_stored t at (take n xs), length-take n xs))
 
   flat_append : (es fs : List (List A)) → flat (es ++ fs) ≡ flat es ++ flat fs
   flat_append [] fs = refl

@@ -1,14 +1,14 @@
 // Total reads and stores of slices, ranges, comparison of byte strings, lent tables, and the refusal of every call.
 #![tactic(auto)]
 
-ghost use Rattle.std.specs.Prelude.{◌≡◌, ℕ, ◌-◌, length, get_or, set, replicate, take, drop};
+ghost use Rattle.std.specs.Prelude.{◌≡◌, ℕ, ◌-◌, length, get_or, set, take, drop};
 ghost use Rattle.base.specs.Bytes.{same, precedes, within};
-ghost use Rattle.base.specs.Table.{zero_float, capacity_of};
+ghost use Rattle.base.specs.Table.{zero_float, capacity_of, stored};
 
 pub mod refusal;
 
 // The places `from` to `to`, the last one left out, of a slice that stands beside it.
-#[derive(Clone, Copy)]
+#[derive(Clone, Copy, PartialEq)]
 pub struct Range {
     pub from: usize,
     pub to: usize,
@@ -30,6 +30,17 @@ pub fn store<T: Copy>(t: &mut [T], at: usize, x: T)
     }
 }
 
+// Stores elements one after another from a place on, and nothing past the end.
+pub fn store_all<T: Copy>(t: &mut [T], at: usize, xs: &[T])
+    ensures { t.new ≡ stored t.old at xs.now }
+{
+    if t.len() <= at {
+        return;
+    }
+    let n = xs.len().min(t.len() - at);
+    t[at..at + n].copy_from_slice(&xs[..n]);
+}
+
 // The byte at a place, and 0 past the end.
 pub fn byte_at(s: &[u8], i: usize) -> u8
     ensures { result ≡ get_or s.now i 0 }
@@ -49,41 +60,6 @@ pub fn float_at(t: &[f64], i: usize) -> f64
     ensures { result ≡ get_or t.now i zero_float }
 {
     at_or(t, i, 0.0)
-}
-
-// Stores a word, and nothing past the end.
-pub fn set_word(t: &mut [u32], at: usize, v: u32)
-    ensures { t.new ≡ set t.old at v }
-{
-    store(t, at, v);
-}
-
-// Stores a word of 64 bits, and nothing past the end.
-pub fn set_long(t: &mut [u64], spot: usize, w: u64)
-    ensures { t.new ≡ set t.old spot w }
-{
-    store(t, spot, w);
-}
-
-// Stores a number, and nothing past the end.
-pub fn set_float(t: &mut [f64], place: usize, x: f64)
-    ensures { t.new ≡ set t.old place x }
-{
-    store(t, place, x);
-}
-
-// Every word is 0.
-pub fn zero_words(t: &mut [u32])
-    ensures { t.new ≡ replicate (length t.old) 0 }
-{
-    t.fill(0);
-}
-
-// Every number is 0.0.
-pub fn zero_floats(t: &mut [f64])
-    ensures { t.new ≡ replicate (length t.old) zero_float }
-{
-    t.fill(0.0);
 }
 
 // How many entries of `stride` elements a table of `len` elements takes: at most 16,384.

@@ -1,6 +1,6 @@
 // The refusal of every call: five numbers, and the names of the first two.
 ghost use Rattle.std.specs.Prelude.{◌≡◌};
-ghost use Rattle.base.specs.Refusal.{refusal, of_entity};
+ghost use Rattle.base.specs.Refusal.{refusal, of_entity, numbers_of};
 
 #[derive(Clone, Copy)]
 pub struct Refusal {
@@ -110,21 +110,25 @@ impl Refusal {
     pub fn of_entity(number: usize, multipolygon: bool, place: usize) -> Refusal
         ensures { result ≡ of_entity number multipolygon place }
     {
-        if multipolygon {
-            return Refusal {
-                number,
-                reason: 1,
-                text: place,
-                line: 0,
-                character: 0,
-            };
-        }
         Refusal {
             number,
-            reason: 0,
+            reason: usize::from(multipolygon),
             text: place,
             line: 0,
             character: 0,
         }
+    }
+
+    // The five numbers, in their order.
+    pub fn numbers(self) -> [u64; 5]
+        ensures { result ≡ numbers_of self }
+    {
+        [
+            self.number as u64,
+            self.reason as u64,
+            self.text as u64,
+            self.line as u64,
+            self.character as u64,
+        ]
     }
 }

@@ -15,7 +15,7 @@ use Rattle.base.specs.declared.refusal.Refusal.{Refusal}
 use Rattle.group.specs.Number.{number_at, group_of}
 use Rattle.group.specs.Pair.{pairs_at, skip_of, entries_at, named, all_utf8, map_bytes}
 use Rattle.group.proofs.Numbers.{number_read_at, number_written_at, number_most}
-use Rattle.group.proofs.Pairs.{AllShort, all_short, pairs_read, pairs_written, pairs_all, skip_within}
+use Rattle.group.proofs.Runs.{AllShort, all_short, pairs_read, pairs_written, pairs_all, skip_within}
 use Rattle.bundle.specs.Bundle.{count_of, first_at, ranges_of, texts_of, good_names, is_bundle, check_of, bundle_bytes, IsTexts}
 use Rattle.std.specs.Option.{option_eq}
 use Rattle.std.specs.Prelude.{Option, Some, None, Ok, Err}

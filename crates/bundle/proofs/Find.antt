@@ -22,7 +22,7 @@ module _ (s name : Bytes) where
   unfolding lookup find_in on_option pick
   lookup_in k [] = refl
   lookup_in k (p ∷ ps) =
-      by-test (same name (within p.first s)) (λ e. rw e) (λ e. rw e (lookup_in (k + 1) ps))
+      by-test (same name (within p.0 s)) (λ e. rw e) (λ e. rw e (lookup_in (k + 1) ps))
 
   pub find_lookup : lookup name (texts_of s) ≡ on_option2 (find_of s name) none (λ k r. some (within r s))
   unfolding find_of ranges_of texts_of entries_at
@@ -39,17 +39,17 @@ module _ (s name : Bytes) where
   unfolding find_in nth_of pick
   numbered_in j k r [] e = absurd (let z : ◌≡◌ {A = ℕ} 0 1 = cc in omega arith)
   numbered_in j k r (p ∷ ps) e =
-      by-test (same name (within p.first s))
+      by-test (same name (within p.0 s))
       (λ t.
-      let q : Some (j, p.second) ≡ Some (k, r) = rw t at e in
+      let q : Some (j, p.1) ≡ Some (k, r) = rw t at e in
       let x : j ≡ k = some2_first q in
-      let y : p.second ≡ r = some2_second q in
+      let y : p.1 ≡ r = some2_second q in
       let z : k - j ≡ 0 = omega arith in
       record {
         later = omega arith;
-        name_at_lem = p.first;
-        is = rw z (ap (λ (r : Range). Some (p.first, r)) y);
-        named_so = sym (same_true name (within p.first s) t);
+        name_at_lem = p.0;
+        is = rw z (ap (λ (r : Range). Some (p.0, r)) y);
+        named_so = sym (same_true name (within p.0 s) t);
       })
       (λ t.
       let o = numbered_in (j + 1) k r ps (rw t at e) in

@@ -1,28 +1,21 @@
 -- Names of texts, as the code goes through them.
-use Prim.Native.Nat.{ℕ, suc, ◌+◌, ◌-◌, ◌<◌, ◌≤◌}
-use native.Mathlib.Omega.{arith}
+use Prim.Native.Nat.{ℕ, ◌+◌}
 use mathlib.Core.Path.{◌≡◌, refl, sym, ◌∙◌, ap}
 use mathlib.Core.Bool.{Bool, true, false}
 use mathlib.Core.List.{List, [], ◌∷◌, map}
 use Rattle.base.specs.Bytes.{Bytes, same, within}
 use Rattle.base.specs.Choice.{pick, by-test}
 use Rattle.base.specs.Map.{Entry, Map, key_of, member}
-use Rattle.base.specs.declared.Range.{Range}
-use Rattle.group.specs.Pair.{Ranges, ranges, pair_at, pairs_at, named}
+use Rattle.group.specs.Pair.{Ranges, named}
 use Rattle.bundle.specs.Bundle.{good_name, good_names, find_in}
-use Rattle.std.specs.Prelude.{Some, None, is_some}
-use Rattle.base.specs.Option.{on_option, on_option2}
+use Rattle.std.specs.Prelude.{Some, None}
+use Rattle.std.specs.List.{list_any}
 
--- a name is found just where it is a key
-pub found_named :
-    (s name : Bytes) (k : ℕ) (ps : List Ranges)
-    → is_some (find_in s name k ps) ≡ member name (map key_of (map (named s) ps))
-unfolding find_in member pick
-found_named s name k [] = refl
-found_named s name k (p ∷ ps) =
-    by-test (same name (within p.first s))
-    (λ e. rw e)
-    (λ e. rw e (found_named s name (k + 1) ps))
+-- a name is that of a text just where it is a key
+pub named_in : (s name : Bytes) (ps : List Ranges) → list_any (λ p. same name (within p.0 s)) ps ≡ member name (map key_of (map (named s) ps))
+unfolding member pick
+named_in s name [] = refl
+named_in s name (p ∷ ps) = by-test (same name (within p.0 s)) (λ e. rw e) (λ e. rw e (named_in s name ps))
 
 -- no text further on
 module _ (m : Map Bytes) (e : m ≡ []) where
@@ -45,31 +38,17 @@ module _ (m m' : Map Bytes) (a : Entry Bytes) (e : m ≡ a ∷ m') where
         let h : good_name a.key (map key_of m') ≡ true = ap (λ (x : Bytes). good_name x (map key_of m')) (sym p) ∙ sym q ∙ t in
         rw (e, h)
 
--- a run of pairs, with so many left
-run_step :
-    (n k : ℕ) (s : Bytes) (at : ℕ)
-    → k < n
-    → pairs_at (n - k) s at ≡ on_option2 (pair_at s at) [] (λ a b. ranges a b ∷ pairs_at (n - (k + 1)) s b.to)
-unfolding pairs_at
-run_step n k s at h =
-    let p : n - k ≡ suc (n - (k + 1)) = omega arith in
-    rw p
+-- the text of a name, among the texts that are left
+module _ (s name : Bytes) (k : ℕ) (ps : List Ranges) where
+  pub find_end : ps ≡ [] → None ≡ find_in s name k ps
+  unfolding find_in
+  find_end e = rw e
 
-module _ (s name : Bytes) (n k at : ℕ) where
-  pub find_end : n ≤ k → None ≡ find_in s name k (pairs_at (n - k) s at)
-  unfolding find_in pairs_at
-  find_end h = let p : n - k ≡ 0 = omega arith in rw p
+  module _ (p : Ranges) (qs : List Ranges) (e : ps ≡ p ∷ qs) (y : Bytes) (r : Bool) (u : y ≡ within p.0 s) (v : r ≡ same name y) where
+    pub find_here : r ≡ true → Some (k, p.1) ≡ find_in s name k ps
+    unfolding find_in pick
+    find_here t = let g : same name (within p.0 s) ≡ true = ap (same name) (sym u) ∙ sym v ∙ t in rw (e, g)
 
-  module _ (h : k < n) where
-    pub find_broken : pair_at s at ≡ None → None ≡ find_in s name k (pairs_at (n - k) s at)
-    unfolding find_in on_option
-    find_broken e = rw (run_step n k s at h, e)
-
-    module _ (a b : Range) (e : pair_at s at ≡ Some (a, b)) (y : Bytes) (r : Bool) (p : y ≡ within a s) (q : r ≡ same name y) where
-      pub find_here : r ≡ true → Some (k, b) ≡ find_in s name k (pairs_at (n - k) s at)
-      unfolding find_in on_option pick
-      find_here t = let g : same name (within a s) ≡ true = ap (same name) (sym p) ∙ sym q ∙ t in rw (run_step n k s at h, e, g)
-
-      pub find_next : r ≡ false → find_in s name (k + 1) (pairs_at (n - (k + 1)) s b.to) ≡ find_in s name k (pairs_at (n - k) s at)
-      unfolding find_in on_option pick
-      find_next t = let g : same name (within a s) ≡ false = ap (same name) (sym p) ∙ sym q ∙ t in rw (run_step n k s at h, e, g)
+    pub find_next : r ≡ false → find_in s name (k + 1) qs ≡ find_in s name k ps
+    unfolding find_in pick
+    find_next t = let g : same name (within p.0 s) ≡ false = ap (same name) (sym u) ∙ sym v ∙ t in rw (e, g)

@@ -51,7 +51,7 @@ check_of s =
 -- the first text of a name, with its number
 unfoldable pub find_in : Bytes → Bytes → ℕ → List Ranges → Option (ℕ × Range)
 find_in s name k [] = None
-find_in s name k (p ∷ ps) = pick (same name (within p.first s)) (Some (k, p.second)) (find_in s name (k + 1) ps)
+find_in s name k (p ∷ ps) = pick (same name (within p.0 s)) (Some (k, p.1)) (find_in s name (k + 1) ps)
 
 unfoldable pub find_of : Bytes → Bytes → Option (ℕ × Range)
 find_of s name = find_in s name 0 (ranges_of s)

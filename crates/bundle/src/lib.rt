@@ -3,11 +3,12 @@
 
 ghost use Rattle.std.specs.Prelude.{◌≡◌, map};
 ghost use Rattle.base.specs.Map.{key_of, member};
-ghost use Rattle.group.specs.Pair.{entries_at, nth_of, pairs_at};
+ghost use Rattle.group.specs.Pair.{named, nth_of, pairs_left};
 ghost use Rattle.bundle.specs.Bundle.{count_of, first_at, ranges_of, good_names, is_bundle, check_of, find_in, find_of, good_name};
 
 use base::Range;
 use base::refusal::Refusal;
+use group::Pairs;
 
 // Checks the layout (refusal 1), then the UTF-8 of names and texts (refusal 2).
 pub fn check_bundle(bundle: &[u8]) -> Result<usize, Refusal>
@@ -36,7 +37,7 @@ pub fn find_text(bundle: &[u8], name: &[u8]) -> Option<(usize, Range)>
     ensures { result ≡ find_of bundle.now name.now }
 {
     let (count, first) = header(bundle);
-    find_from(bundle, first, count, name)
+    find_from(bundle, Pairs::new(bundle, first, count), name)
 }
 
 // How many texts the bundle says that it holds, and the place of the first; 0 and 0 where it does not say so.
@@ -61,51 +62,44 @@ fn is_bundle(bundle: &[u8]) -> bool
         return false;
     }
     group::skip_pairs(bundle, first, count) == Some(bundle.len())
-        && good_names(bundle, first, count)
+        && good_names(bundle, Pairs::new(bundle, first, count))
 }
 
 // Whether names have 1 to 255 bytes and no two are equal.
-fn good_names(s: &[u8], at: usize, count: usize) -> bool
-    ensures { result ≡ good_names (map key_of (entries_at count s.now at)) }
+fn good_names(s: &[u8], texts: Pairs) -> bool
+    ensures { result ≡ good_names (map key_of (map (named s.now) (pairs_left texts.entry))) }
 {
-    let mut place = at;
-    for k in 0..count {
-        let Some((a, b)) = group::pair_at(s, place) else {
-            return true;
-        };
-        place = b.to;
-        if !good_name(s, base::part(s, a), place, count - k - 1) {
+    let mut rest = texts;
+    while let Some((a, _)) = rest.next() {
+        if !good_name(s, base::part(s, a), rest) {
             return false;
         }
     }
     true
 }
 
-// Whether a name has 1 to 255 bytes and is none of so many names further on.
-fn good_name(s: &[u8], name: &[u8], at: usize, count: usize) -> bool
-    ensures { result ≡ good_name name.now (map key_of (entries_at count s.now at)) }
+// Whether a name has 1 to 255 bytes and is none of those further on.
+fn good_name(s: &[u8], name: &[u8], rest: Pairs) -> bool
+    ensures { result ≡ good_name name.now (map key_of (map (named s.now) (pairs_left rest.entry))) }
 {
-    1 <= name.len() && name.len() <= 255 && !is_named(s, at, count, name)
+    1 <= name.len() && name.len() <= 255 && !is_named(s, rest, name)
 }
 
-// Whether one of so many texts has a name.
-fn is_named(s: &[u8], at: usize, count: usize, name: &[u8]) -> bool
-    ensures { result ≡ member name.now (map key_of (entries_at count s.now at)) }
+// Whether one of the texts has a name.
+fn is_named(s: &[u8], mut texts: Pairs, name: &[u8]) -> bool
+    ensures { result ≡ member name.now (map key_of (map (named s.now) (pairs_left texts.entry))) }
 {
-    find_from(s, at, count, name).is_some()
+    texts.any(|(a, _)| base::same_bytes(name, base::part(s, a)))
 }
 
-// The first of so many texts that has a name; they are numbered from 0.
-fn find_from(s: &[u8], at: usize, count: usize, name: &[u8]) -> Option<(usize, Range)>
-    ensures { result ≡ find_in s.now name.now 0 (pairs_at count s.now at) }
+// The first of the texts that has a name; they are numbered from 0.
+fn find_from(s: &[u8], texts: Pairs, name: &[u8]) -> Option<(usize, Range)>
+    ensures { result ≡ find_in s.now name.now 0 (pairs_left texts.entry) }
 {
-    let mut place = at;
-    for k in 0..count {
-        let (a, b) = group::pair_at(s, place)?;
+    for (k, (a, b)) in texts.enumerate() {
         if base::same_bytes(name, base::part(s, a)) {
             return Some((k, b));
         }
-        place = b.to;
     }
     None
 }

@@ -6,16 +6,21 @@ use mathlib.Core.Bool.{Bool, true, false, not}
 use mathlib.Core.List.{List, [], ◌∷◌}
 use lib.Ieee.{Float}
 use lib.ListN.{length}
-use borrow.Author.Tests.{eq-eqb, ne_eqb, not-true, not-false}
-use Rattle.base.specs.Bytes.{Bytes, same, between}
-use Rattle.base.specs.Choice.{pick, via, if_true, if_false}
+use lib.Dec.{eqb}
+use borrow.Author.Tests.{eqb-true, not-true, not-false}
+use Rattle.base.specs.Bytes.{Bytes, same, within}
+use Rattle.base.specs.Choice.{pick, by-test, via, if_true, if_false}
+use Rattle.table.specs.Kind.{object_kind}
+use Rattle.table.specs.declared.kind.ObjectKind.{ObjectKind}
+use Rattle.table.specs.declared.kind.ObjectKind.TheVariants.{All, Canvas, Meta, Node, Way, Area}
 use Rattle.base.specs.Refusal.{refusal}
 use Rattle.base.specs.declared.refusal.Refusal.{Refusal}
-use Rattle.table.specs.Value.{word_at, value_at}
+use Rattle.base.specs.declared.Range.{Range}
+use Rattle.table.specs.Value.{word_at, range_at, value_at}
 use Rattle.table.specs.declared.PropertyValue.{PropertyValue}
 use Rattle.valid.specs.Valid.{tables_sound}
 use Rattle.valid.specs.declared.Counts.{Counts}
-use Rattle.decode.specs.Decode.{places}
+use Rattle.decode.specs.Decode.{name_at, places}
 use Rattle.style.specs.declared.StyleType.{StyleType}
 use Rattle.canvas.specs.Canvas.{or_color, shade_of, color_at, first_color, any_canvas, rule_color, rules_color, canvas_name, canvas_of}
 use Rattle.std.specs.Prelude.{Option, None, Ok, Err}
@@ -90,24 +95,64 @@ module _ (bundle : Bytes) (rules selectors properties : List ℕ) (numbers : Lis
 
 -- ---- one of several selectors
 
+canvas_kind : ObjectKind → Bool
+canvas_kind All = false
+canvas_kind Canvas = true
+canvas_kind Meta = false
+canvas_kind Node = false
+canvas_kind Way = false
+canvas_kind Area = false
+
+-- of all kinds 2 alone is `canvas`
+kind_is : (k : ℕ) → canvas_kind (object_kind k) ≡ eqb k 2
+unfolding object_kind pick canvas_kind
+kind_is k =
+    by-test (eqb k 2)
+    (λ a. let e : k ≡ 2 = eqb-true k 2 a in rw e)
+    (λ a.
+    by-test (eqb k 1) (λ b. rw (b, a))
+    (λ b.
+    by-test (eqb k 3) (λ c. rw (b, a, c))
+    (λ c. by-test (eqb k 4) (λ d. rw (b, a, c, d)) (λ d. by-test (eqb k 5) (λ f. rw (b, a, c, d, f)) (λ f. rw (b, a, c, d, f))))))
+
+module _ (k : ℕ) (r : ObjectKind) (e : r ≡ object_kind k) where
+  pub canvas_there : r ≡ Canvas → true ≡ eqb k 2
+  unfolding canvas_kind
+  canvas_there q = ap canvas_kind (sym q ∙ e) ∙ kind_is k
+
+  pub canvas_other : (r ≡ Canvas → ⊥) → false ≡ eqb k 2
+  unfolding canvas_kind
+  canvas_other h = other r h ∙ ap canvas_kind e ∙ kind_is k
+    where
+      other : (r : ObjectKind) → (r ≡ Canvas → ⊥) → false ≡ canvas_kind r
+      other All h = refl
+      other Canvas h = absurd (h refl)
+      other Meta h = refl
+      other Node h = refl
+      other Way h = refl
+      other Area h = refl
+
 module _ (selectors : List ℕ) (to s : ℕ) where
   pub canvas_end : to ≤ s → false ≡ any_canvas selectors (places s (to - s))
   unfolding any_canvas
   canvas_end h = none_left (any_canvas selectors) to s h
 
-  module _ (h : s < to) (w : ℕ) (e : w ≡ word_at selectors s 0) where
-    pub canvas_found : w ≡ 2 → true ≡ any_canvas selectors (places s (to - s))
+  module _ (h : s < to) (b : Bool) (e : b ≡ eqb (word_at selectors s 0) 2) where
+    pub canvas_found : b ≡ true → true ≡ any_canvas selectors (places s (to - s))
     unfolding any_canvas
-    canvas_found y = if_true _ true _ (eq-eqb _ 2 (sym e ∙ y)) refl ∙ one_left (any_canvas selectors) to s h
+    canvas_found y = if_true _ true _ (via e y) refl ∙ one_left (any_canvas selectors) to s h
 
-    pub canvas_next : (w ≡ 2 → ⊥) → any_canvas selectors (places (s + 1) (to - (s + 1))) ≡ any_canvas selectors (places s (to - s))
+    pub canvas_next : b ≡ false → any_canvas selectors (places (s + 1) (to - (s + 1))) ≡ any_canvas selectors (places s (to - s))
     unfolding any_canvas
-    canvas_next y = if_false _ true _ (ne_eqb _ 2 (λ q. y (e ∙ q))) refl ∙ one_left (any_canvas selectors) to s h
+    canvas_next y = if_false _ true _ (via e y) refl ∙ one_left (any_canvas selectors) to s h
 
 -- ---- one property
 
-module _ (bundle : Bytes) (properties : List ℕ) (numbers : List Float) (name : Bytes) (p from to : ℕ) (a : from ≡ word_at properties p 1)
-    (b : to ≡ word_at properties p 2) (part : Bytes) (e : part ≡ between from to bundle) (t : Bool) (f : t ≡ same part name) where
+module _ (bundle : Bytes) (properties : List ℕ) (numbers : List Float) (name : Bytes) (p : ℕ) (a : Range) (b : a ≡ range_at properties p 1)
+    (part : Bytes) (e : part ≡ within a bundle) (t : Bool) (f : t ≡ same part name) where
+  named : name_at bundle properties p ≡ part
+  named = sym (e ∙ ap (λ a. within a bundle) b)
+
   pub color_named_lem :
       t ≡ true
       → (v : PropertyValue) (r : Option Color)
@@ -115,11 +160,11 @@ module _ (bundle : Bytes) (properties : List ℕ) (numbers : List Float) (name :
       → r ≡ shade_of v
       → r ≡ color_at bundle properties numbers name p
   unfolding color_at pick
-  color_named_lem y v r g q = rw (← a, ← b, ← e, ← f, y, ← g) q
+  color_named_lem y v r g q = rw (named, ← f, y, ← g) q
 
   pub color_other : t ≡ false → None ≡ color_at bundle properties numbers name p
   unfolding color_at pick
-  color_other y = rw (← a, ← b, ← e, ← f, y)
+  color_other y = rw (named, ← f, y)
 
 -- ---- the whole
 

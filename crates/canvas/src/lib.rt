@@ -1,15 +1,17 @@
 // The canvas colour of a sheet, over lent tables.
 #![tactic(auto)]
 
-ghost use Rattle.std.specs.Prelude.{◌≡◌, List, ◌≤◌, ◌<◌, ◌-◌};
+ghost use Rattle.std.specs.Prelude.{◌≡◌, eqb, List, ◌≤◌, ◌<◌, ◌-◌};
+ghost use Rattle.table.specs.Value.{word_at};
 ghost use Rattle.decode.specs.Decode.{places};
 ghost use Rattle.canvas.specs.Canvas.{shade_of, color_at, first_color, any_canvas, rule_color, rules_color, canvas_of};
 
 use base::refusal::{Refusal, TABLE_BROKEN};
 use color::Color;
 use style::StyleType;
-use table::{PropertyValue, Tables, word_of};
-use valid::{Counts, is_sound};
+use table::kind::ObjectKind;
+use table::{PropertyValue, Tables, property_value, range_of, word_of};
+use valid::{Counts, are_sound};
 
 // The canvas colour: 22 is the only refusal. proofs/Shown.antt restates the promise on rules.
 pub fn canvas_fill_color(
@@ -19,15 +21,7 @@ pub fn canvas_fill_color(
 ) -> Result<Option<Color>, Refusal>
     ensures { result ≡ canvas_of tables.now.bundle.now tables.now.rules.now tables.now.selectors.now tables.now.tests.now tables.now.properties.now tables.now.numbers.now n style_type }
 {
-    if !is_sound(
-        tables.rules,
-        tables.selectors,
-        tables.tests,
-        tables.properties,
-        tables.numbers,
-        n,
-        tables.bundle.len(),
-    ) {
+    if !are_sound(tables, n) {
         return Err(Refusal::plain(TABLE_BROKEN));
     }
     match style_type {
@@ -71,11 +65,17 @@ fn any_canvas(selectors: &[u32], from: usize, to: usize) -> bool
     ensures { result ≡ any_canvas selectors.now (places from (to - from)) }
 {
     for s in from..to {
-        if word_of(selectors, s, 0) == 2 {
+        if is_canvas(selectors, s) {
             return true;
         }
     }
     false
+}
+
+fn is_canvas(selectors: &[u32], s: usize) -> bool
+    ensures { result ≡ eqb (word_at selectors.now s 0) 2 }
+{
+    matches!(ObjectKind::of(word_of(selectors, s, 0)), ObjectKind::Canvas)
 }
 
 // The first colour value of this name among the properties from..to.
@@ -94,15 +94,9 @@ fn first_color(tables: &Tables, name: &[u8], from: usize, to: usize) -> Option<C
 fn color_at(tables: &Tables, name: &[u8], p: usize) -> Option<Color>
     ensures { result ≡ color_at tables.now.bundle.now tables.now.properties.now tables.now.numbers.now name.now p }
 {
-    let named = base::part(
-        tables.bundle,
-        base::Range {
-            from: word_of(tables.properties, p, 1),
-            to: word_of(tables.properties, p, 2),
-        },
-    );
+    let named = base::part(tables.bundle, range_of(tables.properties, p, 1));
     if base::same_bytes(named, name) {
-        return shade_of(table::property_value(tables.properties, tables.numbers, p));
+        return shade_of(property_value(tables.properties, tables.numbers, p));
     }
     None
 }

@@ -1,19 +1,20 @@
 -- An export's answer, told.
-use Prim.Native.Nat.{ℕ}
+use Prim.Native.Nat.{ℕ, ◌≤◌}
 use mathlib.Core.Path.{◌≡◌, ap, ◌∙◌}
 use mathlib.Core.List.{List, [], map}
 use lib.IntN.{ℤ, pos}
 use lib.Ieee.{Float}
-use lib.ListN.{take, replicate}
+use lib.ListN.{length, take, replicate}
+use lib.Seq.{take_all}
 use Rattle.base.specs.Table.{zero_float, padded, stored, flat}
 use Rattle.base.specs.declared.refusal.Refusal.{Refusal}
 use Rattle.parser.specs.Load.{Held}
 use Rattle.styles.specs.declared.EntityStyles.{EntityStyles}
 use Rattle.styles.specs.declared.StyledLayer.{StyledLayer}
 use Rattle.style_rows.specs.Rows.{row_words, row_floats, row_layer}
-use Rattle.answers.specs.Answers.{told_load, told_count, count_of}
+use Rattle.answers.specs.Answers.{told_load, told_count, told_styles, styled_layers}
 use Rattle.answer_words.specs.declared.Answer.{Answer}
-use Rattle.capi.specs.Answered.{styled_layers, Told, LoadAnswered, MapsAnswered, StylesAnswered, ListAnswered}
+use Rattle.capi.specs.Answered.{Told, LoadAnswered, MapsAnswered, StylesAnswered, ListAnswered}
 use Rattle.std.specs.Prelude.{Result, Err}
 use Rattle.parser.specs.declared.Counts.{Counts}
 
@@ -52,20 +53,21 @@ maps_told e f g =
     }
 
 pub styles_told :
-    {x y : EntityStyles} {n : ℕ} {f : Answer 5} {words out out' : List ℕ} {floats : List Float} {layers : List ℤ}
+    {x y : Result EntityStyles Refusal} {ls : List StyledLayer} {f : Answer 5} {words out out' : List ℕ} {floats : List Float}
+    {layers : List ℤ}
     → y ≡ x
-    → n ≡ count_of y.answer
-    → words ≡ padded 0 1664 (flat (map row_words (take n y.layers)))
-    → floats ≡ padded zero_float 192 (flat (map row_floats (take n y.layers)))
-    → layers ≡ padded (pos 0) 32 (map row_layer (take n y.layers))
-    → f ≡ told_count y.answer
+    → ls ≡ styled_layers y
+    → length ls ≤ 32
+    → words ≡ padded 0 1664 (flat (map row_words (take 32 ls)))
+    → floats ≡ padded zero_float 192 (flat (map row_floats (take 32 ls)))
+    → layers ≡ padded (pos 0) 32 (map row_layer (take 32 ls))
+    → f ≡ told_styles y
     → out' ≡ stored out 0 f.words
     → StylesAnswered x f.kind words floats layers out out'
-styles_told {x} {y} {n} e c w f l a o =
-    let t : take n y.layers ≡ styled_layers x =
-    ap (λ (k : ℕ). take k y.layers) c ∙ ap styled_layers e in
+styles_told {x} {y} {ls} e c h w f l a o =
+    let t : take 32 ls ≡ styled_layers x = take_all 32 ls h ∙ c ∙ ap styled_layers e in
     record {
-      told = told_five (a ∙ ap (λ (y : EntityStyles). told_count y.answer) e) o;
+      told = told_five (a ∙ ap told_styles e) o;
       left_words = w ∙ ap (λ (ls : List StyledLayer). padded 0 1664 (flat (map row_words ls))) t;
       left_floats = f ∙ ap (λ (ls : List StyledLayer). padded zero_float 192 (flat (map row_floats ls))) t;
       left_layers = l ∙ ap (λ (ls : List StyledLayer). padded (pos 0) 32 (map row_layer ls)) t;
@@ -73,13 +75,13 @@ styles_told {x} {y} {n} e c w f l a o =
 
 -- after a refusal all that was lent for styles is zero
 pub refused_zero :
-    {x : EntityStyles} {e : Refusal} {r : ℕ} {words : List ℕ} {floats : List Float} {layers : List ℤ} {out out' : List ℕ}
-    → x.answer ≡ Err e
+    {x : Result EntityStyles Refusal} {e : Refusal} {r : ℕ} {words : List ℕ} {floats : List Float} {layers : List ℤ} {out out' : List ℕ}
+    → x ≡ Err e
     → StylesAnswered x r words floats layers out out'
     → (words ≡ replicate 1664 0) × ((floats ≡ replicate 192 zero_float) × (layers ≡ replicate 32 (pos 0)))
-unfolding count_of
+unfolding styled_layers
 refused_zero {x} q s =
-    let t : styled_layers x ≡ [] = ap (λ (y : Result ℕ Refusal). take (count_of y) x.layers) q in (
+    let t : styled_layers x ≡ [] = ap styled_layers q in (
       s.left_words ∙ ap (λ (ls : List StyledLayer). padded 0 1664 (flat (map row_words ls))) t,
       (
         s.left_floats ∙ ap (λ (ls : List StyledLayer). padded zero_float 192 (flat (map row_floats ls))) t,

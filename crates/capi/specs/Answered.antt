@@ -1,11 +1,10 @@
 -- What the exports answer and leave in their lent slices: crates/capi/src/lib.rt has the numbers as a table.
-use Rattle.std.specs.Prelude.{ℕ, ◌≡◌, List, map, ℤ, pos, Float, take, Result}
+use Rattle.std.specs.Prelude.{ℕ, ◌≡◌, List, map, ℤ, pos, Float, Result}
 use Rattle.base.specs.Table.{zero_float, padded, stored, flat}
 use Rattle.parser.specs.Load.{Held}
 use Rattle.styles.specs.declared.EntityStyles.{EntityStyles}
-use Rattle.styles.specs.declared.StyledLayer.{StyledLayer}
 use Rattle.style_rows.specs.Rows.{row_words, row_floats, row_layer}
-use Rattle.answers.specs.Answers.{told_load, told_count, count_of}
+use Rattle.answers.specs.Answers.{told_load, told_count, told_styles, styled_layers}
 use Rattle.answer_words.specs.declared.Answer.{Answer}
 use Rattle.base.specs.declared.refusal.Refusal.{Refusal}
 use Rattle.parser.specs.declared.Counts.{Counts}
@@ -26,13 +25,9 @@ pub record MapsAnswered (x : Result ℕ Refusal × List ℕ) (r : ℕ) (maps out
   pub told : Told (told_count x.0) r out out'
   pub left_maps : maps ≡ x.1
 
--- the styled layers of an answer
-abbrev pub styled_layers : EntityStyles → List StyledLayer
-styled_layers x = take (count_of x.answer) x.layers
-
 -- styles: a row for each styled layer, then zeros
-pub record StylesAnswered (x : EntityStyles) (r : ℕ) (words : List ℕ) (floats : List Float) (layers : List ℤ) (out out' : List ℕ) : Type 0 where
-  pub told : Told (told_count x.answer) r out out'
+pub record StylesAnswered (x : Result EntityStyles Refusal) (r : ℕ) (words : List ℕ) (floats : List Float) (layers : List ℤ) (out out' : List ℕ) : Type 0 where
+  pub told : Told (told_styles x) r out out'
   pub left_words : words ≡ padded 0 1664 (flat (map row_words (styled_layers x)))
   pub left_floats : floats ≡ padded zero_float 192 (flat (map row_floats (styled_layers x)))
   pub left_layers : layers ≡ padded (pos 0) 32 (map row_layer (styled_layers x))

@@ -34,7 +34,7 @@ ghost use Rattle.answers.specs.Answers.{told_canvas};
 ghost use Rattle.capi.specs.Answered.{Told, LoadAnswered, MapsAnswered, StylesAnswered, ListAnswered};
 
 use answer_words::store_words;
-use answers::{count_of, told_canvas, told_count, told_load};
+use answers::{styled_layers, told_canvas, told_count, told_load, told_styles};
 use canvas::canvas_fill_color;
 use parser::load;
 use settings::{counts_at, settings_of, type_of};
@@ -122,10 +122,8 @@ pub fn mapcss_styles(
         settings_of(style_type, font, false),
         entity,
     );
-    let answer = x.answer;
-    let all = x.layers;
-    store_layers(all, count_of(answer), words, floats, layers);
-    let five = told_count(answer);
+    store_layers(styled_layers(&x), words, floats, layers);
+    let five = told_styles(&x);
     store_words(out, &five.words);
     five.kind
 }

@@ -32,7 +32,7 @@ ghost use Rattle.token.specs.Step.{step_of};
 ghost use Rattle.capi_token.specs.Told.{Answered, told_step, told_token, ranged, flag, present, height, numbered, payload, words};
 
 use answer_words::store_words;
-use base::{Range, set_float};
+use base::{Range, store};
 use cursor::Cursor;
 use token::{Step, next_token};
 use token_kind::{LexerError, Token};
@@ -75,7 +75,7 @@ pub fn mapcss_next_token(
     let told = told_step(next_token(s, c));
     store_words(out, &words(told));
     let payload = told.payload;
-    set_float(number, 0, payload.number);
+    store(number, 0, payload.number);
     payload.kind
 }
 

@@ -1,11 +1,15 @@
 -- The table's rule: each name of the table has its colour, and no other name has one.
+use Prim.Native.Nat.{ℕ}
 use mathlib.Core.Path.{◌≡◌, refl}
-use mathlib.Core.List.{List, [], ◌∷◌, Memᴰ}
+use mathlib.Core.List.{List, [], ◌∷◌, map, Memᴰ}
 use Rattle.base.specs.Bytes.{Bytes, same}
-use Rattle.base.specs.Choice.{pick}
+use Rattle.base.specs.Choice.{pick, by-test}
 use Rattle.base.proofs.Compare.{same_false}
-use Rattle.color.specs.Named.{Named, named_colors, first_named, color_named}
+use Rattle.color.specs.Named.{Named, row, named_colors, first_named, color_named}
 use Rattle.std.specs.Prelude.{Some, None}
+use Rattle.std.specs.Borrow.{Bor}
+use Rattle.std.specs.List.{find}
+use Rattle.std.specs.Option.{option_map}
 
 -- each entry of a list has, by its name, its own colour
 pub data Colored : List Named → Type 0 where
@@ -32,3 +36,11 @@ others (d ∷ es) n h = rw (same_false n d.name (h d (Memᴰ.head refl))) (other
 pub other_unknown : (n : Bytes) → ((e : Named) → Memᴰ e named_colors → n ≡ e.name → ⊥) → color_named n ≡ None
 unfolding color_named
 other_unknown n h = others named_colors n h
+
+-- the colour of the first entry with a name, as the code looks for it
+pub named_found :
+    (n : Bytes) (es : List (Bor Bytes × ℕ × ℕ × ℕ))
+    → option_map (λ e. (row e).color) (find (λ e. same n e.0.now) es) ≡ first_named (map row es) n
+unfolding first_named pick
+named_found n [] = refl
+named_found n (e ∷ es) = by-test (same n e.0.now) (λ t. rw t) (λ t. rw t (named_found n es))

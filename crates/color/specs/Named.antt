@@ -1,5 +1,6 @@
 -- The ten colours that have a name.
 use Rattle.std.specs.Prelude.{ℕ, List, [], ◌∷◌, Option, Some, None}
+use Rattle.std.specs.Borrow.{Bor}
 use Rattle.base.specs.Bytes.{Bytes, ascii, same}
 use Rattle.base.specs.Choice.{pick}
 use Rattle.color.specs.declared.Color.{Color}
@@ -7,15 +8,16 @@ use Rattle.color.specs.declared.Color.{Color}
 abbrev pub rgb : ℕ → ℕ → ℕ → Color
 rgb r g b = record { r = r; g = g; b = b }
 
-abbrev pub known : ℕ → ℕ → ℕ → Option Color
-known r g b = Some (rgb r g b)
-
 pub record Named : Type 0 where
   pub name : Bytes
   pub color : Color
 
 abbrev pub named : Bytes → Color → Named
 named n c = record { name = n; color = c }
+
+-- an entry of the code's table
+abbrev pub row : Bor Bytes × ℕ × ℕ × ℕ → Named
+row e = named e.0.now (rgb e.1 e.2 e.3)
 
 abbrev pub named_colors : List Named
 named_colors =

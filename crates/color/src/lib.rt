@@ -1,8 +1,8 @@
 // Colours, and the ten that have a name.
 #![tactic(auto)]
 
-ghost use Rattle.std.specs.Prelude.{◌≡◌};
-ghost use Rattle.color.specs.Named.{color_named, known};
+ghost use Rattle.std.specs.Prelude.{◌≡◌, map};
+ghost use Rattle.color.specs.Named.{color_named, first_named, row};
 
 use base::same_bytes;
 
@@ -13,45 +13,31 @@ pub struct Color {
     pub b: u8,
 }
 
+// The names, each with its red, green and blue.
+const NAMED: [(&[u8], u8, u8, u8); 10] = [
+    (b"white", 255, 255, 255),
+    (b"black", 0, 0, 0),
+    (b"blue", 0, 0, 255),
+    (b"brown", 165, 42, 42),
+    (b"green", 0, 255, 0),
+    (b"grey", 128, 128, 128),
+    (b"pink", 255, 192, 203),
+    (b"purple", 128, 0, 128),
+    (b"red", 255, 0, 0),
+    (b"salmon", 250, 128, 114),
+];
+
 // The colour of a name. proofs/Names.antt restates the promise over the table of names.
 pub fn from_color_name(name: &[u8]) -> Option<Color>
     ensures { result ≡ color_named name.now }
 {
-    if same_bytes(name, b"white") {
-        return known(255, 255, 255);
-    }
-    if same_bytes(name, b"black") {
-        return known(0, 0, 0);
-    }
-    if same_bytes(name, b"blue") {
-        return known(0, 0, 255);
-    }
-    if same_bytes(name, b"brown") {
-        return known(165, 42, 42);
-    }
-    if same_bytes(name, b"green") {
-        return known(0, 255, 0);
-    }
-    if same_bytes(name, b"grey") {
-        return known(128, 128, 128);
-    }
-    if same_bytes(name, b"pink") {
-        return known(255, 192, 203);
-    }
-    if same_bytes(name, b"purple") {
-        return known(128, 0, 128);
-    }
-    if same_bytes(name, b"red") {
-        return known(255, 0, 0);
-    }
-    if same_bytes(name, b"salmon") {
-        return known(250, 128, 114);
-    }
-    None
+    first_named(&NAMED, name)
 }
 
-fn known(r: u8, g: u8, b: u8) -> Option<Color>
-    ensures { result ≡ known r g b }
+// The colour of the first entry with a name.
+fn first_named(named: &[(&[u8], u8, u8, u8)], name: &[u8]) -> Option<Color>
+    ensures { result ≡ first_named (map row named.entry.now) name.now }
 {
+    let (_, r, g, b) = *named.iter().find(|n| same_bytes(name, n.0))?;
     Some(Color { r, g, b })
 }

@@ -1,7 +1,7 @@
 -- Laws of the two lists, one for each way through the code, over plain lists and numbers.
 use Prim.Native.Nat.{ℕ, ◌≤◌}
 use mathlib.Core.Path.{◌≡◌, refl, sym, ◌∙◌, ap, ap₂}
-use mathlib.Core.Bool.{Bool, true, false, not}
+use mathlib.Core.Bool.{Bool, true, false}
 use mathlib.Core.List.{List, [], ◌++◌}
 use native.Mathlib.Omega.{arith}
 use lib.Ieee.{Float}
@@ -23,15 +23,34 @@ use Rattle.order.specs.Keys.{key_le}
 use Rattle.drawing.specs.Gather.{Gathered, stopped, gathered, on-Gathered, gather_of}
 use Rattle.drawing.specs.Lists.{room_of, entries_of, listed, ordered, nodes_of, areas_of}
 use Rattle.drawing.proofs.ListLaws.{length_sort}
-use Rattle.std.specs.Prelude.{Result, Ok, Err}
+use Rattle.drawing.specs.declared.Drawing.{Drawing}
+use Rattle.std.specs.Prelude.{Result, Ok, Err, is_ok}
+use Rattle.std.proofs.Common.{true≢false}
 
-was_false : (b : Bool) → not b ≡ true → b ≡ false
-was_false true h = sym h
-was_false false h = refl
+-- what the check of the tables says, by its answer
+pub judged_err :
+    {A E : Type 0} (b : Bool) (x : A) {j : Result A E} {y e : E}
+    → j ≡ pick b (Ok x) (Err y)
+    → j ≡ Err e
+    → (b ≡ false) × (e ≡ y)
+unfolding pick
+judged_err true _ h q = absurd (true≢false (ap is_ok (sym h ∙ q)))
+judged_err false _ h q = (refl, let p = sym q ∙ h in cc)
 
-was_true : (b : Bool) → not b ≡ false → b ≡ true
-was_true true h = refl
-was_true false h = sym h
+pub judged_ok :
+    {A E : Type 0} (b : Bool) (y : E) {j : Result A E} {x a : A}
+    → j ≡ pick b (Ok x) (Err y)
+    → j ≡ Ok a
+    → (b ≡ true) × (a ≡ x)
+unfolding pick
+judged_ok true _ h q = (refl, let p = sym q ∙ h in cc)
+judged_ok false _ h q = absurd (true≢false (ap is_ok (sym q ∙ h)))
+
+-- what a Drawing gathers
+abbrev pub gathered_by : ℕ → Sort → Bool → Bytes → List Key → Drawing → Gathered
+gathered_by room sort multipolygons s ks d =
+    gather_of d.tables.now.bundle.now d.tables.now.rules.now d.tables.now.selectors.now d.tables.now.tests.now
+    d.tables.now.properties.now d.tables.now.numbers.now d.total d.zoom d.for_labels room sort multipolygons s ks
 
 -- a list of zeros, of so many words
 pub zeros : (len : ℕ) (z : List ℕ) → z ≡ replicate len 0 → length z ≡ len → z ≡ replicate (length z) 0
@@ -68,23 +87,26 @@ list_is len len' w k ks u e l q =
 
 module _
     (bundle : Bytes) (rules selectors tests properties : List ℕ) (numbers : List Float) (n : Counts) (zoom : ℕ) (s : Settings)
-    (len : ℕ) (b : Bool) (e : b ≡ tables_sound rules selectors tests properties numbers n (length bundle)) where
+    (len : ℕ) where
+  abbrev sound : Bool
+  sound = tables_sound rules selectors tests properties numbers n (length bundle)
+
   abbrev gathers : ℕ → Sort → Bool → Bytes → List Key → Gathered
   gathers room = gather_of bundle rules selectors tests properties numbers n.rules zoom s.for_labels room
 
-  module _ (y : not b ≡ true) (x : Refusal) (p : x ≡ refusal 22 0 0 0 0) (u : List ℕ) (q : u ≡ replicate len 0) where
+  module _ (y : sound ≡ false) (x : Refusal) (p : x ≡ refusal 22 0 0 0 0) (u : List ℕ) (q : u ≡ replicate len 0) where
     pub nodes_broken : (nodes : Bytes) → no_list x u ≡ nodes_of bundle rules selectors tests properties numbers n zoom s len nodes
     unfolding nodes_of listed pick
-    nodes_broken nodes = rw (← e, was_false b y) (ap₂ no_list p q)
+    nodes_broken nodes = rw y (ap₂ no_list p q)
 
     pub areas_broken :
         (ways multipolygons : Bytes)
         → no_list x u ≡ areas_of bundle rules selectors tests properties numbers n zoom s len ways multipolygons
     unfolding areas_of listed pick
-    areas_broken ways multipolygons = rw (← e, was_false b y) (ap₂ no_list p q)
+    areas_broken ways multipolygons = rw y (ap₂ no_list p q)
 
   module _
-      (y : not b ≡ false) (len' : ℕ) (z : len' ≡ len) (room : ℕ) (r : room ≡ room_of len') (sofar : List Key) (f : sofar ≡ []) where
+      (y : sound ≡ true) (len' : ℕ) (z : len' ≡ len) (room : ℕ) (r : room ≡ room_of len') (sofar : List Key) (f : sofar ≡ []) where
     room_is : room ≡ room_of len
     room_is = r ∙ ap room_of z
 
@@ -99,7 +121,7 @@ module _
           → u ≡ replicate len 0
           → no_list x u ≡ nodes_of bundle rules selectors tests properties numbers n zoom s len nodes
       unfolding nodes_of listed on-Gathered pick
-      nodes_refused x p u q = rw (← e, was_true b y, nodes_gathered ∙ p) (ap (no_list x) q)
+      nodes_refused x p u q = rw (y, nodes_gathered ∙ p) (ap (no_list x) q)
 
       pub nodes_listed :
           (ks : List Key)
@@ -110,7 +132,7 @@ module _
           → u ≡ padded 0 len' (entries_of (sort key_le (drop 0 ks ++ take 0 ks)))
           → is_list k u ≡ nodes_of bundle rules selectors tests properties numbers n zoom s len nodes
       unfolding nodes_of on-Gathered pick
-      nodes_listed ks p k l u q = rw (← e, was_true b y, nodes_gathered ∙ p) (list_is len len' 0 k ks u z l q)
+      nodes_listed ks p k l u q = rw (y, nodes_gathered ∙ p) (list_is len len' 0 k ks u z l q)
 
     module _ (ways multipolygons : Bytes) (g : Gathered) (h : g ≡ gathers room Areas false ways sofar) where
       ways_gathered : gathers (room_of len) Areas false ways [] ≡ g
@@ -123,7 +145,7 @@ module _
           → u ≡ replicate len 0
           → no_list x u ≡ areas_of bundle rules selectors tests properties numbers n zoom s len ways multipolygons
       unfolding areas_of listed on-Gathered pick
-      ways_refused x p u q = rw (← e, was_true b y, ways_gathered ∙ p) (ap (no_list x) q)
+      ways_refused x p u q = rw (y, ways_gathered ∙ p) (ap (no_list x) q)
 
       module _
           (ws : List Key) (p : g ≡ gathered ws) (room' : ℕ) (r' : room' ≡ room_of len') (g' : Gathered)
@@ -138,7 +160,7 @@ module _
             → u ≡ replicate len 0
             → no_list x u ≡ areas_of bundle rules selectors tests properties numbers n zoom s len ways multipolygons
         unfolding areas_of listed on-Gathered pick
-        areas_refused x t u q = rw (← e, was_true b y, ways_gathered ∙ p, both_gathered ∙ t) (ap (no_list x) q)
+        areas_refused x t u q = rw (y, ways_gathered ∙ p, both_gathered ∙ t) (ap (no_list x) q)
 
         pub areas_listed :
             (ks : List Key)
@@ -151,4 +173,4 @@ module _
             → is_list k u ≡ areas_of bundle rules selectors tests properties numbers n zoom s len ways multipolygons
         unfolding areas_of on-Gathered pick
         areas_listed ks t w k v l u q =
-            rw (← e, was_true b y, ways_gathered ∙ p, both_gathered ∙ t, v) (list_is len len' w k ks u z l q)
+            rw (y, ways_gathered ∙ p, both_gathered ∙ t, v) (list_is len len' w k ks u z l q)

@@ -51,23 +51,20 @@ module _
 
     pub entity_pushed :
         b ≡ false
-        → (l : Option ℤ)
-        → l ≡ layer
         → (x : Gathered)
         → x
         ≡ push room ks
         (gathered
-        (keys_from bundle properties numbers for_labels multipolygons place kind id l t 0 (styled_rows bundle selectors t n)))
+        (keys_from bundle properties numbers for_labels multipolygons place kind id layer t 0 (styled_rows bundle selectors t n)))
         → x ≡ pushed w
     unfolding keys_in pick
-    entity_pushed y l z x u =
-        let k : Option ℤ → Gathered =
-        λ l.
-        push room ks
+    entity_pushed y x u =
+        let g : pushed (Ok n, t)
+        ≡ push room ks
         (gathered
-        (keys_from bundle properties numbers for_labels multipolygons place kind id l t 0 (styled_rows bundle selectors t n))) in
-        let g : pushed (Ok n, t) ≡ k layer = rw (← p, y) in
-        u ∙ ap k z ∙ sym g ∙ sym (ap pushed (via_with e q))
+        (keys_from bundle properties numbers for_labels multipolygons place kind id layer t 0 (styled_rows bundle selectors t n))) =
+        rw (← p, y) in
+        u ∙ sym g ∙ sym (ap pushed (via_with e q))
 
 -- ---- an entity that is read ends behind its start and within the stream
 

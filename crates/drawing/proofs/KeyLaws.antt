@@ -42,14 +42,14 @@ module _ (bundle : Bytes) (selectors t : List ℕ) (m : ℕ) where
   unfolding keep places
   rows_end i h = let e : m - i ≡ 0 = omega arith in ap (λ k. keep keeps (places i k)) e
 
-  module _ (i : ℕ) (h : i < m) (w : ℕ) (e : w ≡ get_or t (i * 131) 0) (r : Bool) (q : r ≡ same star (layer_in bundle selectors w)) where
-    rows_skip : r ≡ true → rows i ≡ rows (i + 1)
+  module _ (i : ℕ) (h : i < m) (r : Bool) (q : r ≡ keeps i) where
+    rows_skip : r ≡ false → rows i ≡ rows (i + 1)
     unfolding keep places
-    rows_skip y = ap (λ k. keep keeps (places i k)) (one_less i m h) ∙ rw (← e, ← q, y)
+    rows_skip y = ap (λ k. keep keeps (places i k)) (one_less i m h) ∙ rw (← q, y)
 
-    rows_take : r ≡ false → rows i ≡ i ∷ rows (i + 1)
+    rows_take : r ≡ true → rows i ≡ i ∷ rows (i + 1)
     unfolding keep places
-    rows_take y = ap (λ k. keep keeps (places i k)) (one_less i m h) ∙ rw (← e, ← q, y)
+    rows_take y = ap (λ k. keep keeps (places i k)) (one_less i m h) ∙ rw (← q, y)
 
 -- ---- a z-index that is NaN
 
@@ -68,12 +68,11 @@ module _
   unfolding any_nan
   nan_end i h q = sym (ap (any_nan bundle properties numbers t kind) (rows_end bundle selectors t m i h)) ∙ q
 
-  module _ (i : ℕ) (h : i < m) (w : ℕ) (e : w ≡ get_or t (i * 131) 0) (r : Bool) (q : r ≡ same star (layer_in bundle selectors w))
-      (g : nan_left i ≡ nan_all) where
-    pub nan_skip : r ≡ true → nan_left (i + 1) ≡ nan_all
-    nan_skip y = sym (ap (any_nan bundle properties numbers t kind) (rows_skip bundle selectors t m i h w e r q y)) ∙ g
+  module _ (i : ℕ) (h : i < m) (r : Bool) (q : r ≡ keeps bundle selectors t m i) (g : nan_left i ≡ nan_all) where
+    pub nan_skip : r ≡ false → nan_left (i + 1) ≡ nan_all
+    nan_skip y = sym (ap (any_nan bundle properties numbers t kind) (rows_skip bundle selectors t m i h r q y)) ∙ g
 
-    module _ (y : r ≡ false) (row : List ℕ) (u : row ≡ numbers_at t i) (z : Float)
+    module _ (y : r ≡ true) (row : List ℕ) (u : row ≡ numbers_at t i) (z : Float)
         (v : z ≡ z_index_in bundle properties numbers row kind) where
       z_is : z ≡ z_of bundle properties numbers t kind i
       z_is = v ∙ ap (λ r. z_index_in bundle properties numbers r kind) u
@@ -82,7 +81,7 @@ module _
       unfolding any_nan
       first =
           ap (λ z. pick (is_nan z) true (nan_left (i + 1))) z_is
-          ∙ sym (ap (any_nan bundle properties numbers t kind) (rows_take bundle selectors t m i h w e r q y))
+          ∙ sym (ap (any_nan bundle properties numbers t kind) (rows_take bundle selectors t m i h r q y))
           ∙ g
 
       pub nan_found : is_nan z ≡ true → true ≡ nan_all
@@ -137,15 +136,15 @@ module _
     push_end h l =
         push_none room ks l ∙ sym (ap (λ is. push room ks (gathered (keys k is))) (rows_end bundle selectors t m i h)) ∙ g
 
-    module _ (h : i < m) (w : ℕ) (e : w ≡ get_or t (i * 131) 0) (r : Bool) (q : r ≡ same star (layer_in bundle selectors w)) where
-      pub push_skip : r ≡ true → push_left ks (i + 1) k ≡ all
+    module _ (h : i < m) (r : Bool) (q : r ≡ keeps bundle selectors t m i) where
+      pub push_skip : r ≡ false → push_left ks (i + 1) k ≡ all
       push_skip y =
-          sym (ap (λ is. push room ks (gathered (keys k is))) (rows_skip bundle selectors t m i h w e r q y)) ∙ g
+          sym (ap (λ is. push room ks (gathered (keys k is))) (rows_skip bundle selectors t m i h r q y)) ∙ g
 
-      module _ (y : r ≡ false) where
+      module _ (y : r ≡ true) where
         next : push room ks (gathered (key k i ∷ keys (k + 1) (rows bundle selectors t m (i + 1)))) ≡ all
         unfolding keys_from
-        next = sym (ap (λ is. push room ks (gathered (keys k is))) (rows_take bundle selectors t m i h w e r q y)) ∙ g
+        next = sym (ap (λ is. push room ks (gathered (keys k is))) (rows_take bundle selectors t m i h r q y)) ∙ g
 
         pub push_stop : room ≤ length ks → (x : Refusal) → x ≡ refusal 25 0 0 0 0 → stopped x ≡ all
         push_stop l x u =
@@ -162,15 +161,13 @@ module _
       (t' : List Key) (i k : ℕ) (all : Gathered)
       → push_left (take k t') i k ≡ all
       → i < m
-      → (w : ℕ)
-      → w ≡ get_or t (i * 131) 0
       → (r : Bool)
-      → r ≡ same star (layer_in bundle selectors w)
-      → r ≡ false
+      → r ≡ keeps bundle selectors t m i
+      → r ≡ true
       → k < length t'
       → (x : Key)
       → x ≡ key k i
       → push_left (take (k + 1) (set t' k x)) (i + 1) (k + 1) ≡ all
-  keys_next t' i k all g h w e r q y l x u =
-      push_next (take k t') i k all g h w e r q y (take (k + 1) (set t' k x))
+  keys_next t' i k all g h r q y l x u =
+      push_next (take k t') i k all g h r q y (take (k + 1) (set t' k x))
       (rw (add-one k, take-suc-set t' k x l, u))

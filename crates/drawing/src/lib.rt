@@ -1,23 +1,54 @@
 // Drawing lists: the styled layers of all entities of a stream in drawing order, into a lent list of three words an entry.
 #![tactic(auto)]
 
-ghost use Rattle.std.specs.Prelude.{◌≡◌, ◌*◌, ◌≤◌, length};
+ghost use Rattle.std.specs.Prelude.{◌≡◌, ◌*◌, ◌≤◌, length, Ok, Err};
+ghost use Rattle.base.specs.Choice.{pick};
+ghost use Rattle.base.specs.Refusal.{refusal};
 ghost use Rattle.valid.specs.Valid.{tables_sound};
 ghost use Rattle.drawing.specs.Lists.{room_of, nodes_of, areas_of};
 
 use base::refusal::{Refusal, TABLE_BROKEN};
-use base::zero_words;
 use entity::Sort;
-use gather::gather;
 use list::write_list;
 use order::ZERO_KEY;
 use style::Settings;
 use table::Tables;
-use valid::{Counts, is_sound};
+use valid::{Counts, are_sound};
 
 mod gather;
 mod keys;
 mod list;
+
+// What a list is made with: tables, of which the first `total` rules count, a zoom, and whether it is for labels.
+#[derive(Clone, Copy)]
+struct Drawing<'a> {
+    tables: &'a Tables<'a>,
+    total: usize,
+    zoom: u8,
+    for_labels: bool,
+}
+
+impl<'a> Drawing<'a> {
+    // Refusal 22 where the tables are not sound.
+    fn judged(
+        tables: &'a Tables<'a>,
+        n: Counts,
+        zoom: u8,
+        settings: Settings,
+    ) -> Result<Drawing<'a>, Refusal>
+        ensures { result ≡ pick (tables_sound tables.now.rules.now tables.now.selectors.now tables.now.tests.now tables.now.properties.now tables.now.numbers.now n (length tables.now.bundle.now)) (Ok (record { tables = tables.entry; total = n.rules; zoom = zoom; for_labels = settings.for_labels })) (Err (refusal 22 0 0 0 0)) }
+    {
+        if !are_sound(tables, n) {
+            return Err(Refusal::plain(TABLE_BROKEN));
+        }
+        Ok(Drawing {
+            tables,
+            total: n.rules,
+            zoom,
+            for_labels: settings.for_labels,
+        })
+    }
+}
 
 // The drawing list of a stream of nodes. An entry is 0, the node's place in the stream, and the place among its styled layers.
 pub fn style_entities(
@@ -30,23 +61,11 @@ pub fn style_entities(
 ) -> Result<usize, Refusal>
     ensures { (result, list.new) ≡ nodes_of tables.now.bundle.now tables.now.rules.now tables.now.selectors.now tables.now.tests.now tables.now.properties.now tables.now.numbers.now n zoom settings (length list.old) nodes.now }
 {
-    zero_words(list);
-    if !are_sound(tables, n) {
-        return Err(Refusal::plain(TABLE_BROKEN));
-    }
+    list.fill(0);
+    let drawing = Drawing::judged(tables, n, zoom, settings)?;
     let mut keys = [ZERO_KEY; 4096];
     let free = &mut keys[..room_of(list.len())];
-    let k = gather(
-        tables,
-        n.rules,
-        zoom,
-        settings.for_labels,
-        Sort::Nodes,
-        false,
-        nodes,
-        free,
-        0,
-    )?;
+    let k = drawing.gather(Sort::Nodes, false, nodes, free)?;
     write_list(&free[..k], 0, list);
     Ok(k)
 }
@@ -63,51 +82,15 @@ pub fn style_areas(
 ) -> Result<usize, Refusal>
     ensures { (result, list.new) ≡ areas_of tables.now.bundle.now tables.now.rules.now tables.now.selectors.now tables.now.tests.now tables.now.properties.now tables.now.numbers.now n zoom settings (length list.old) ways.now multipolygons.now }
 {
-    zero_words(list);
-    if !are_sound(tables, n) {
-        return Err(Refusal::plain(TABLE_BROKEN));
-    }
+    list.fill(0);
+    let drawing = Drawing::judged(tables, n, zoom, settings)?;
     let mut keys = [ZERO_KEY; 4096];
     let free = &mut keys[..room_of(list.len())];
-    let w = gather(
-        tables,
-        n.rules,
-        zoom,
-        settings.for_labels,
-        Sort::Areas,
-        false,
-        ways,
-        free,
-        0,
-    )?;
-    let k = gather(
-        tables,
-        n.rules,
-        zoom,
-        settings.for_labels,
-        Sort::Areas,
-        true,
-        multipolygons,
-        free,
-        w,
-    )?;
+    let w = drawing.gather(Sort::Areas, false, ways, free)?;
+    let m = drawing.gather(Sort::Areas, true, multipolygons, &mut free[w..])?;
+    let k = w + m;
     write_list(&free[..k], w, list);
     Ok(k)
-}
-
-// Whether the tables are sound.
-fn are_sound(tables: &Tables, n: Counts) -> bool
-    ensures { result ≡ tables_sound tables.now.rules.now tables.now.selectors.now tables.now.tests.now tables.now.properties.now tables.now.numbers.now n (length tables.now.bundle.now) }
-{
-    is_sound(
-        tables.rules,
-        tables.selectors,
-        tables.tests,
-        tables.properties,
-        tables.numbers,
-        n,
-        tables.bundle.len(),
-    )
 }
 
 // The entries that a list of so many words takes.

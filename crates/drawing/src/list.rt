@@ -37,8 +37,8 @@ fn count_from(order: &mut [u32], from: usize)
     requires { from + length order.old ≤ 4096 }
     ensures { order.new ≡ places from (length order.old) }
 {
-    for i in 0..order.len() {
-        order[i] = (from + i) as u32;
+    for (i, number) in order.iter_mut().enumerate() {
+        *number = (from + i) as u32;
     }
 }
 
@@ -47,8 +47,8 @@ fn write_entries(order: &[u32], keys: &[Key], list: &mut [u32])
     requires { (length order.now * 3 ≤ length list.old) × (list.old ≡ replicate (length list.old) 0) }
     ensures { list.new ≡ padded 0 (length list.old) (flat (map (entry_at keys.now) order.now)) }
 {
-    for i in 0..order.len() {
-        let k = at_or(keys, order[i] as usize, ZERO_KEY);
+    for (i, &number) in order.iter().enumerate() {
+        let k = at_or(keys, number as usize, ZERO_KEY);
         let at = i * 3;
         list[at] = (k.stream % 4294967296) as u32;
         list[at + 1] = (k.place % 4294967296) as u32;

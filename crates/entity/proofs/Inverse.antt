@@ -16,7 +16,7 @@ use Rattle.base.specs.Map.{Map, key_of}
 use Rattle.group.specs.Number.{number_at, group_of}
 use Rattle.group.specs.Pair.{skip_of, pairs_at, entries_at, named, map_bytes}
 use Rattle.group.proofs.Numbers.{number_read_at, number_written_at, number_most, number_within}
-use Rattle.group.proofs.Pairs.{AllShort, all_short, pairs_read, pairs_written, pairs_all, skip_within}
+use Rattle.group.proofs.Runs.{AllShort, all_short, pairs_read, pairs_written, pairs_all, skip_within}
 use Rattle.entity.specs.Layout.{kind_fits, rising, tags_of, value_of, closed_of, tags_at, entity_at, entity_bytes, IsEntity}
 use Rattle.entity.specs.declared.Sort.{Sort}
 use Rattle.entity.specs.declared.Sort.TheVariants.{Any, Nodes, Areas}

@@ -2,13 +2,14 @@
 #![tactic(auto)]
 
 ghost use Rattle.std.specs.Prelude.{◌≡◌, map};
-ghost use Rattle.base.specs.Bytes.{within};
 ghost use Rattle.base.specs.Map.{key_of};
+ghost use Rattle.base.specs.Refusal.{of_entity};
 ghost use Rattle.group.specs.Pair.{entries_at};
-ghost use Rattle.entity.specs.Layout.{kind_fits, rises_from, rising, closed_of, tags_at, entity_at, single_of, next_of, nth_from};
+ghost use Rattle.entity.specs.Layout.{kind_fits, rising, closed_of, tags_at, entity_at, single_of, next_of, nth_from};
 
-use base::Range;
-use base::refusal::Refusal;
+use base::refusal::{ENTITY_LAYOUT, NOT_UTF8, Refusal};
+use base::{Range, bytes_precede, part};
+use group::Pairs;
 
 // Which kinds a caller takes.
 #[derive(Clone, Copy)]
@@ -28,45 +29,73 @@ pub struct EntityRange {
     pub end: usize,
 }
 
+// An entity: the bytes that it stands in, and where.
+#[derive(Clone, Copy)]
+pub struct Entity<'a> {
+    pub bytes: &'a [u8],
+    pub range: EntityRange,
+}
+
+// A place in a stream of nodes or ways, or of multipolygons.
+#[derive(Clone, Copy)]
+pub struct StreamPlace {
+    pub multipolygons: bool,
+    pub place: usize,
+}
+
+// The place of a single entity.
+pub const ALONE: StreamPlace = StreamPlace {
+    multipolygons: false,
+    place: 0,
+};
+
+impl StreamPlace {
+    // The refusal of the entity that stands here.
+    pub fn refuse(self, number: usize) -> Refusal
+        ensures { result ≡ of_entity number self.multipolygons self.place }
+    {
+        Refusal::of_entity(number, self.multipolygons, self.place)
+    }
+}
+
 // Checks a single entity of any kind: its layout (refusal 7), then its UTF-8 (refusal 2).
 pub fn single_entity(s: &[u8]) -> Result<EntityRange, Refusal>
     ensures { result ≡ single_of s.now }
 {
     let Some(e) = entity_at(s, 0, Sort::Any) else {
-        return Err(Refusal::of_entity(base::refusal::ENTITY_LAYOUT, false, 0));
+        return Err(ALONE.refuse(ENTITY_LAYOUT));
     };
     if e.end != s.len() {
-        return Err(Refusal::of_entity(base::refusal::ENTITY_LAYOUT, false, 0));
+        return Err(ALONE.refuse(ENTITY_LAYOUT));
     }
     if group::pairs_utf8(s, e.tags, e.count) {
         return Ok(e);
     }
-    Err(Refusal::of_entity(base::refusal::NOT_UTF8, false, 0))
+    Err(ALONE.refuse(NOT_UTF8))
 }
 
-// The next entity of a stream, which stands at a place and is number `place` there, checked as a single one is; None at the end.
+// The next entity of a stream, behind byte `at`, checked as a single one is; None at the end.
 pub fn next_entity(
     s: &[u8],
     sort: Sort,
-    multipolygons: bool,
     at: usize,
-    place: usize,
+    place: StreamPlace,
 ) -> Result<Option<EntityRange>, Refusal>
-    ensures { result ≡ next_of sort multipolygons s.now at place }
+    ensures { result ≡ next_of sort place.multipolygons s.now at place.place }
 {
     if 1048576 < s.len() {
-        return Err(Refusal::of_entity(base::refusal::ENTITY_LAYOUT, multipolygons, 0));
+        return Err(StreamPlace { place: 0, ..place }.refuse(ENTITY_LAYOUT));
     }
     if s.len() <= at {
         return Ok(None);
     }
     let Some(e) = entity_at(s, at, sort) else {
-        return Err(Refusal::of_entity(base::refusal::ENTITY_LAYOUT, multipolygons, place));
+        return Err(place.refuse(ENTITY_LAYOUT));
     };
     if group::pairs_utf8(s, e.tags, e.count) {
         return Ok(Some(e));
     }
-    Err(Refusal::of_entity(base::refusal::NOT_UTF8, multipolygons, place))
+    Err(place.refuse(NOT_UTF8))
 }
 
 // Entity number k, from 0, of a stream, as a range.
@@ -148,30 +177,5 @@ fn closed(s: &[u8], at: usize, e: EntityRange) -> Option<EntityRange>
 fn keys_rise(s: &[u8], at: usize, count: usize) -> bool
     ensures { result ≡ rising (map key_of (entries_at count s.now at)) }
 {
-    if count == 0 {
-        return true;
-    }
-    let Some((a, b)) = group::pair_at(s, at) else {
-        return true;
-    };
-    rise_from(s, a, b.to, count - 1)
-}
-
-// Whether the keys of so many tags rise from the key of a range on.
-fn rise_from(s: &[u8], first: Range, at: usize, count: usize) -> bool
-    ensures { result ≡ rises_from (within first s.now) (map key_of (entries_at count s.now at)) }
-{
-    let mut last = first;
-    let mut place = at;
-    for _ in 0..count {
-        let Some((a, b)) = group::pair_at(s, place) else {
-            return true;
-        };
-        if !base::bytes_precede(base::part(s, last), base::part(s, a)) {
-            return false;
-        }
-        last = a;
-        place = b.to;
-    }
-    true
+    Pairs::new(s, at, count).is_sorted_by(|(a, _), (b, _)| bytes_precede(part(s, *a), part(s, *b)))
 }

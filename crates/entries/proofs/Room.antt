@@ -1,12 +1,11 @@
 -- Room in a table, as the code tests it.
-use Prim.Native.Nat.{ℕ, suc, ◌+◌, ◌*◌, ◌/◌, min, ◌<◌, ◌≤◌}
+use Prim.Native.Nat.{ℕ, suc, ◌+◌, ◌*◌, ◌/◌, ◌<◌, ◌≤◌}
 use Rattle.std.proofs.Math.Nat.{suc-mul, mul-le-mul_right, div-mul-le_self}
 use native.Mathlib.Omega.{arith}
-use mathlib.Core.Path.{◌≡◌, refl, sym, ◌∙◌, ap}
+use mathlib.Core.Path.{◌≡◌, refl, ap}
 use mathlib.Core.List.{List}
-use lib.ListN.{length, set, drop, get_or}
+use lib.ListN.{length}
 use borrow.Author.Tests.{lt-ltb, le-ltb}
-use Rattle.std.proofs.lemmas.List.{at_drop_more}
 use Rattle.base.specs.Choice.{if_true, if_false}
 use Rattle.base.specs.Table.{capacity_of, stored}
 use Rattle.entries.specs.Put.{put_of}
@@ -27,14 +26,3 @@ unfolding capacity_of
 entry_fits k len n h =
     let a : suc n * k ≤ len / k * k = mul-le-mul_right k (omega (arith, h)) in
     omega (arith, suc-mul n k, a, div-mul-le_self len k)
-
--- the next of what is left to store is stored here
-pub stored_on :
-    {A : Type 0} (t u : List A) (e : List A) (at i : ℕ) (d : A)
-    → i < length e
-    → u ≡ set t (at + i) (get_or e i d)
-    → stored u (at + (i + 1)) (drop (i + 1) e) ≡ stored t (at + i) (drop i e)
-stored_on t u e at i d h q =
-    ap (λ v. stored v (at + (i + 1)) (drop (i + 1) e)) q
-    ∙ ap (λ k. stored (set t (at + i) (get_or e i d)) k (drop (i + 1) e)) (omega arith)
-    ∙ sym (at_drop_more (stored t (at + i)) e i d h)

@@ -6,7 +6,7 @@ ghost use Rattle.table.specs.Value.{word};
 ghost use Rattle.entries.specs.Put.{put_of};
 ghost use Rattle.entries.specs.Words.{level_word, first_of, second_of, layer_word, layer_from, layer_to, rule_words, selector_words, test_words, property_words, color_words};
 
-use base::{Range, store};
+use base::{Range, store_all};
 use color::Color;
 use table::Name;
 
@@ -17,10 +17,7 @@ fn put_entry<T: Copy>(t: &mut [T], n: usize, entry: &[T]) -> Option<usize>
     if base::capacity(entry.len(), t.len()) <= n {
         return None;
     }
-    let at = n * entry.len();
-    for i in 0..entry.len() {
-        store(t, at + i, entry[i]);
-    }
+    store_all(t, n * entry.len(), entry);
     Some(n + 1)
 }
 

@@ -1,2 +1,3 @@
 pub mod Numbers
-pub mod Pairs
+pub mod Runs
+pub mod Skips

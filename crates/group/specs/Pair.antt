@@ -5,6 +5,7 @@ use Rattle.base.specs.Choice.{pick}
 use Rattle.base.specs.Map.{Entry, Map, entry}
 use Rattle.base.specs.declared.Range.{Range}
 use Rattle.utf8.specs.Utf8.{is_utf8}
+use Rattle.group.specs.declared.Pairs.{Pairs}
 use Rattle.group.specs.Number.{number_at, group_of}
 use Rattle.base.specs.Option.{on_option, on_option2}
 
@@ -24,17 +25,24 @@ part_at s at = on_option2 (number_at s at 4294967295) None λ n next. sized_of s
 unfoldable pub pair_at : Bytes → ℕ → Option (Range × Range)
 pair_at s at = on_option (part_at s at) None λ a. on_option (part_at s a.to) None λ b. Some (a, b)
 
+-- the place behind a pair
+unfoldable pub behind : Bytes → ℕ → Option ℕ
+behind s at = on_option2 (pair_at s at) None λ a b. Some b.to
+
 -- so many pairs, one behind the other, as far as they can be read
-pub record Ranges : Type 0 where
-  pub first : Range
-  pub second : Range
+abbrev pub Ranges : Type 0
+Ranges = Range × Range
 
 abbrev pub ranges : Range → Range → Ranges
-ranges a b = record { first = a; second = b }
+ranges a b = (a, b)
 
 unfoldable pub pairs_at : ℕ → Bytes → ℕ → List Ranges
 pairs_at zero s at = []
 pairs_at (suc n) s at = on_option2 (pair_at s at) [] λ a b. ranges a b ∷ pairs_at n s b.to
+
+-- the pairs that an iterator has still to give
+abbrev pub pairs_left : Pairs → List Ranges
+pairs_left p = pairs_at p.count p.s.now p.at
 
 -- the place behind so many pairs
 unfoldable pub skip_of : ℕ → Bytes → ℕ → Option ℕ
@@ -44,12 +52,12 @@ skip_of (suc n) s at = on_option2 (pair_at s at) None λ a b. skip_of n s b.to
 -- pair number k, from 0
 unfoldable pub nth_of : List Ranges → ℕ → Option (Range × Range)
 nth_of [] k = None
-nth_of (p ∷ ps) zero = Some (p.first, p.second)
+nth_of (p ∷ ps) zero = Some p
 nth_of (p ∷ ps) (suc k) = nth_of ps k
 
 -- the bytes that pairs of ranges name
 abbrev pub named : Bytes → Ranges → Entry Bytes
-named s p = entry (within p.first s) (within p.second s)
+named s p = entry (within p.0 s) (within p.1 s)
 
 unfoldable pub entries_at : ℕ → Bytes → ℕ → Map Bytes
 entries_at n s at = map (named s) (pairs_at n s at)

@@ -3,9 +3,10 @@
 
 ghost use Rattle.std.specs.Prelude.{◌≡◌, ◌/◌, ◌≤◌};
 ghost use Rattle.group.specs.Number.{number_at, single, joined};
-ghost use Rattle.group.specs.Pair.{sized_of, part_at, pair_at, skip_of, pairs_at, nth_of, entries_at, all_utf8};
+ghost use Rattle.group.specs.Pair.{sized_of, part_at, pair_at, behind, pairs_left, skip_of, pairs_at, nth_of, entries_at, all_utf8};
 
-use base::Range;
+use base::{Range, part};
+use utf8::is_utf8;
 
 // The group number at a place and the place behind it, if it is of the shortest form and at most `most`.
 pub fn number_at(s: &[u8], at: usize, most: u64) -> Option<(u64, usize)>
@@ -95,45 +96,67 @@ pub fn pair_at(s: &[u8], at: usize) -> Option<(Range, Range)>
     Some((a, b))
 }
 
+// The pairs of a run, one after the other, as far as they can be read.
+#[derive(Clone, Copy)]
+pub struct Pairs<'a> {
+    s: &'a [u8],
+    at: usize,
+    count: usize,
+}
+
+impl<'a> Pairs<'a> {
+    pub fn new(s: &'a [u8], at: usize, count: usize) -> Pairs<'a>
+        ensures { pairs_left result ≡ pairs_at count s.now at }
+    {
+        Pairs { s, at, count }
+    }
+}
+
+impl Iterator for Pairs<'_> {
+    ghost use Rattle.std.specs.Iterator.{YieldsFirst, item_count};
+
+    type Item = (Range, Range);
+
+    ghost next_gives = { YieldsFirst pairs_left };
+
+    ghost remaining = { item_count pairs_left };
+
+    fn next(&mut self) -> Option<(Range, Range)> {
+        if self.count == 0 {
+            return None;
+        }
+        let pair = pair_at(self.s, self.at)?;
+        self.at = pair.1.to;
+        self.count -= 1;
+        Some(pair)
+    }
+}
+
 // The place behind so many pairs.
 pub fn skip_pairs(s: &[u8], at: usize, count: usize) -> Option<usize>
     ensures { result ≡ skip_of count s.now at }
 {
-    let mut end = at;
-    for _ in 0..count {
-        let (_, b) = pair_at(s, end)?;
-        end = b.to;
-    }
-    Some(end)
+    (0..count).try_fold(at, |end, _| behind(s, end))
+}
+
+// The place behind the pair at a place.
+fn behind(s: &[u8], at: usize) -> Option<usize>
+    ensures { result ≡ behind s.now at }
+{
+    let (_, b) = pair_at(s, at)?;
+    Some(b.to)
 }
 
 // Pair number k, from 0, of so many pairs.
 pub fn nth_pair(s: &[u8], at: usize, count: usize, k: usize) -> Option<(Range, Range)>
     ensures { result ≡ nth_of (pairs_at count s.now at) k }
 {
-    if count <= k {
-        return None;
-    }
-    let place = skip_pairs(s, at, k)?;
-    pair_at(s, place)
+    Pairs::new(s, at, count).nth(k)
 }
 
 // Whether both parts of so many pairs are UTF-8.
 pub fn pairs_utf8(s: &[u8], at: usize, count: usize) -> bool
     ensures { result ≡ all_utf8 (entries_at count s.now at) }
 {
-    let mut place = at;
-    for _ in 0..count {
-        let Some((a, b)) = pair_at(s, place) else {
-            return true;
-        };
-        if !utf8::is_utf8(base::part(s, a)) {
-            return false;
-        }
-        if !utf8::is_utf8(base::part(s, b)) {
-            return false;
-        }
-        place = b.to;
-    }
-    true
+    Pairs::new(s, at, count).all(|(a, b)| is_utf8(part(s, a)) && is_utf8(part(s, b)))
 }

@@ -19,3 +19,10 @@ pub struct Place {
     pub line: usize,
     pub character: usize,
 }
+
+// A text of a bundle, which is read.
+#[derive(Clone, Copy)]
+pub struct Text<'a> {
+    pub bundle: &'a [u8],
+    pub source: Source,
+}

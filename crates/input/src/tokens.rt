@@ -3,7 +3,7 @@ ghost use Rattle.std.specs.Prelude.{◌≡◌, ◌+◌, ◌<◌};
 ghost use Rattle.input.specs.Text.{Fits, shifted, placed, next_of, refusal_at, reached_at, error_at, mandatory_of, expect_of, word_of, key_of, joined_of, figure_of};
 ghost use Rattle.grammar.specs.Token.{right_bracket, colon, semi_colon};
 
-use crate::{Place, Source};
+use crate::{Place, Source, Text};
 use base::Range;
 use base::refusal::{ANOTHER_TOKEN, END_OF_FILE, LEXER, PARSE, Refusal, UNEXPECTED_TOKEN};
 use cursor::Cursor;
@@ -11,15 +11,106 @@ use table::Name;
 use token::{Step, next_token};
 use token_kind::{LexerError, Token};
 
-// The next token, or what stands in its place.
-pub fn next(bundle: &[u8], source: Source, c: Cursor) -> Result<Step, LexerError>
-    ensures { result ≡ next_of bundle.now source c }
-{
-    let range = source.range;
-    let from = range.from;
-    match next_token(base::part(bundle, range), c)? {
-        Step::End(d) => Ok(Step::End(d)),
-        Step::Took(t, line, character, d) => Ok(Step::Took(placed(t, from), line, character, d)),
+impl Text<'_> {
+    // The next token, or what stands in its place.
+    pub fn next(self, c: Cursor) -> Result<Step, LexerError>
+        ensures { result ≡ next_of self.entry.bundle.now self.entry.source c }
+    {
+        let range = self.source.range;
+        let from = range.from;
+        match next_token(base::part(self.bundle, range), c)? {
+            Step::End(d) => Ok(Step::End(d)),
+            Step::Took(t, line, character, d) => {
+                Ok(Step::Took(placed(t, from), line, character, d))
+            }
+        }
+    }
+
+    pub fn read_mandatory_token(self, c: Cursor) -> Result<(Token, Place, Cursor), Refusal>
+        ensures { result ≡ mandatory_of self.entry.bundle.now self.entry.source c }
+    {
+        let source = self.source;
+        match self.next(c).map_err(|e| refuse_error(source, e))? {
+            Step::End(d) => Err(refuse_reached(PARSE, END_OF_FILE, source, d)),
+            Step::Took(t, line, character, d) => {
+                let o = Place {
+                    text: source.number,
+                    line,
+                    character,
+                };
+                Ok((t, o, d))
+            }
+        }
+    }
+
+    pub fn expect_right_bracket(self, c: Cursor) -> Result<Cursor, Refusal>
+        ensures { result ≡ expect_of self.entry.bundle.now right_bracket self.entry.source c }
+    {
+        let (t, o, d) = self.read_mandatory_token(c)?;
+        match t {
+            Token::RightBracket => Ok(d),
+            _ => Err(refuse(PARSE, ANOTHER_TOKEN, o)),
+        }
+    }
+
+    pub fn expect_colon(self, c: Cursor) -> Result<Cursor, Refusal>
+        ensures { result ≡ expect_of self.entry.bundle.now colon self.entry.source c }
+    {
+        let (t, o, d) = self.read_mandatory_token(c)?;
+        match t {
+            Token::Colon => Ok(d),
+            _ => Err(refuse(PARSE, ANOTHER_TOKEN, o)),
+        }
+    }
+
+    pub fn expect_semicolon(self, c: Cursor) -> Result<Cursor, Refusal>
+        ensures { result ≡ expect_of self.entry.bundle.now semi_colon self.entry.source c }
+    {
+        let (t, o, d) = self.read_mandatory_token(c)?;
+        match t {
+            Token::SemiColon => Ok(d),
+            _ => Err(refuse(PARSE, ANOTHER_TOKEN, o)),
+        }
+    }
+
+    pub fn read_identifier(self, c: Cursor) -> Result<(Range, Cursor), Refusal>
+        ensures { result ≡ word_of self.entry.bundle.now self.entry.source c }
+    {
+        let (t, o, d) = self.read_mandatory_token(c)?;
+        match t {
+            Token::Identifier(a) => Ok((a, d)),
+            _ => Err(refuse(PARSE, UNEXPECTED_TOKEN, o)),
+        }
+    }
+
+    // A number that must come.
+    pub fn read_figure(self, c: Cursor) -> Result<(f64, Cursor), Refusal>
+        ensures { result ≡ figure_of self.entry.bundle.now self.entry.source c }
+    {
+        let (t, o, d) = self.read_mandatory_token(c)?;
+        match t {
+            Token::Number(x) => Ok((x, d)),
+            _ => Err(refuse(PARSE, UNEXPECTED_TOKEN, o)),
+        }
+    }
+
+    // What stands behind the first word of a key: a colon and a second word, or none; and the token behind that.
+    pub fn read_key(self, a: Range, c: Cursor) -> Result<(Name, Token, Place, Cursor), Refusal>
+        ensures { result ≡ key_of self.entry.bundle.now self.entry.source a c }
+    {
+        let (t, o, d) = self.read_mandatory_token(c)?;
+        match t {
+            Token::Colon => self.read_joined(a, d),
+            _ => Ok((Name::Plain(a), t, o, d)),
+        }
+    }
+
+    fn read_joined(self, a: Range, c: Cursor) -> Result<(Name, Token, Place, Cursor), Refusal>
+        ensures { result ≡ joined_of self.entry.bundle.now self.entry.source a c }
+    {
+        let (b, d) = self.read_identifier(c)?;
+        let (t, o, f) = self.read_mandatory_token(d)?;
+        Ok((Name::Joined(a, b), t, o, f))
     }
 }
 
@@ -84,106 +175,4 @@ pub fn refuse_error(source: Source, e: LexerError) -> Refusal
         line: e.line,
         character: e.character,
     }
-}
-
-pub fn read_mandatory_token(
-    bundle: &[u8],
-    source: Source,
-    c: Cursor,
-) -> Result<(Token, Place, Cursor), Refusal>
-    ensures { result ≡ mandatory_of bundle.now source c }
-{
-    match next(bundle, source, c) {
-        Err(e) => Err(refuse_error(source, e)),
-        Ok(Step::End(d)) => Err(refuse_reached(PARSE, END_OF_FILE, source, d)),
-        Ok(Step::Took(t, line, character, d)) => Ok((
-            t,
-            Place {
-                text: source.number,
-                line,
-                character,
-            },
-            d,
-        )),
-    }
-}
-
-pub fn expect_right_bracket(bundle: &[u8], source: Source, c: Cursor) -> Result<Cursor, Refusal>
-    ensures { result ≡ expect_of bundle.now right_bracket source c }
-{
-    let (t, o, d) = read_mandatory_token(bundle, source, c)?;
-    match t {
-        Token::RightBracket => Ok(d),
-        _ => Err(refuse(PARSE, ANOTHER_TOKEN, o)),
-    }
-}
-
-pub fn expect_colon(bundle: &[u8], source: Source, c: Cursor) -> Result<Cursor, Refusal>
-    ensures { result ≡ expect_of bundle.now colon source c }
-{
-    let (t, o, d) = read_mandatory_token(bundle, source, c)?;
-    match t {
-        Token::Colon => Ok(d),
-        _ => Err(refuse(PARSE, ANOTHER_TOKEN, o)),
-    }
-}
-
-pub fn expect_semicolon(bundle: &[u8], source: Source, c: Cursor) -> Result<Cursor, Refusal>
-    ensures { result ≡ expect_of bundle.now semi_colon source c }
-{
-    let (t, o, d) = read_mandatory_token(bundle, source, c)?;
-    match t {
-        Token::SemiColon => Ok(d),
-        _ => Err(refuse(PARSE, ANOTHER_TOKEN, o)),
-    }
-}
-
-pub fn read_identifier(bundle: &[u8], source: Source, c: Cursor) -> Result<(Range, Cursor), Refusal>
-    ensures { result ≡ word_of bundle.now source c }
-{
-    let (t, o, d) = read_mandatory_token(bundle, source, c)?;
-    match t {
-        Token::Identifier(a) => Ok((a, d)),
-        _ => Err(refuse(PARSE, UNEXPECTED_TOKEN, o)),
-    }
-}
-
-// A number that must come.
-pub fn read_figure(bundle: &[u8], source: Source, c: Cursor) -> Result<(f64, Cursor), Refusal>
-    ensures { result ≡ figure_of bundle.now source c }
-{
-    let (t, o, d) = read_mandatory_token(bundle, source, c)?;
-    match t {
-        Token::Number(x) => Ok((x, d)),
-        _ => Err(refuse(PARSE, UNEXPECTED_TOKEN, o)),
-    }
-}
-
-// What stands behind the first word of a key: a colon and a second word, or none; and the token behind that.
-pub fn read_key(
-    bundle: &[u8],
-    source: Source,
-    a: Range,
-    c: Cursor,
-) -> Result<(Name, Token, Place, Cursor), Refusal>
-    ensures { result ≡ key_of bundle.now source a c }
-{
-    let (t, o, d) = read_mandatory_token(bundle, source, c)?;
-    match t {
-        Token::Colon => read_joined(bundle, source, a, d),
-        _ => Ok((Name::Plain(a), t, o, d)),
-    }
-}
-
-fn read_joined(
-    bundle: &[u8],
-    source: Source,
-    a: Range,
-    c: Cursor,
-) -> Result<(Name, Token, Place, Cursor), Refusal>
-    ensures { result ≡ joined_of bundle.now source a c }
-{
-    let (b, d) = read_identifier(bundle, source, c)?;
-    let (t, o, f) = read_mandatory_token(bundle, source, d)?;
-    Ok((Name::Joined(a, b), t, o, f))
 }

@@ -13,7 +13,7 @@ use Rattle.base.specs.Table.{stored}
 use Rattle.base.specs.declared.Range.{Range}
 use Rattle.color.specs.declared.Color.{Color}
 use Rattle.entries.specs.Put.{put_of}
-use Rattle.table.specs.Value.{word_at, range_at}
+use Rattle.table.specs.Value.{range_at}
 use Rattle.table.specs.declared.Name.{Name}
 use Rattle.table.specs.declared.PropertyValue.{PropertyValue}
 use Rattle.keep.specs.Lent.{keep_of, value_row, word_row, recolored, place_from}
@@ -52,12 +52,11 @@ recolored_out t i c h =
     rw (set_out t (i * 8 + 3) c.r a, set_out t (i * 8 + 3 + 1) c.g b, set_out t (i * 8 + 3 + 1 + 1) c.b d) refl
 
 pub has_name :
-    (bundle : Bytes) (t : List ℕ) (i from to : ℕ) (p name : Bytes)
-    → from ≡ word_at t i 1
-    → to ≡ word_at t i 2
-    → p ≡ within (record { from = from; to = to }) bundle
+    (bundle : Bytes) (t : List ℕ) (i : ℕ) (r : Range) (p name : Bytes)
+    → r ≡ range_at t i 1
+    → p ≡ within r bundle
     → same name p ≡ same name (within (range_at t i 1) bundle)
-has_name bundle t i from to p name e f g = ap (same name) (g ∙ rw (e, f) refl)
+has_name bundle t i r p name e g = ap (same name) (g ∙ ap (λ r. within r bundle) e)
 
 module _ (bundle name : Bytes) (t : List ℕ) (n i : ℕ) where
   turn : i < n → place_from bundle name t i (n - i) ≡ place_from bundle name t i (suc (n - (i + 1)))

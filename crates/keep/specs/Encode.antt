@@ -7,6 +7,7 @@ use Rattle.grammar.specs.Input.{Entry, rule_entry, selector_entry, test_entry, p
 use Rattle.grammar.specs.Capacity.{Tables}
 use Rattle.keep.specs.Lent.{Lent, lent, range, none_yet, type_number, level_in, layer_in, test_row, value_shown, value_row, fresh_numbers, one_number, one_test, one_property, one_selector, one_rule, one_color}
 use Rattle.input.specs.Text.{range_of}
+use Rattle.keep.specs.declared.Store.{Store}
 use Rattle.keep.specs.declared.Tally.{Tally}
 
 -- how many elements each table has
@@ -20,6 +21,12 @@ pub record Lengths : Type 0 where
 
 abbrev pub lengths : ℕ → ℕ → ℕ → ℕ → ℕ → ℕ → Lengths
 lengths rs ss ts ps xs cs = record { rules = rs; selectors = ss; tests = ts; properties = ps; numbers = xs; colors = cs }
+
+-- of a store
+abbrev pub lengths_by : Store → Lengths
+lengths_by s =
+    lengths (length s.rules.now) (length s.selectors.now) (length s.tests.now) (length s.properties.now) (length s.numbers.now)
+    (length s.colors.now)
 
 -- how many entries table k takes
 abbrev pub capacities : Lengths → ℕ → ℕ

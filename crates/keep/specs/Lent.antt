@@ -1,5 +1,6 @@
 -- The lent tables as a store of the grammar's reader: the words of each entry, and the counts.
-use Rattle.std.specs.Prelude.{ℕ, zero, suc, ◌+◌, ◌*◌, ◌<◌, List, [], ◌∷◌, Float, Option, Some, None}
+use Rattle.std.specs.Prelude.{ℕ, zero, suc, ◌+◌, ◌*◌, ◌<◌, List, [], ◌∷◌, length, Float, Option, Some, None}
+use Rattle.std.specs.Borrow.{GName, MutBor}
 use Rattle.std.proofs.Math.Option.{Option as Option', none, some}
 use Rattle.base.specs.Bytes.{Bytes, same, within}
 use Rattle.base.specs.Choice.{pick}
@@ -18,6 +19,7 @@ use Rattle.grammar.specs.Token.{Name as Name'}
 use Rattle.grammar.specs.Reading.{plain, digits, Test, unary, text, numeric, Value, word, quoted, colored, numbers, width_delta, Colors, color_def}
 use Rattle.grammar.specs.Input.{Entry, rule_entry, selector_entry, test_entry, property_entry, number_entry, color_entry, Store}
 use Rattle.input.specs.Text.{name_in, range_of}
+use Rattle.keep.specs.declared.Store.{Store as Store'}
 use Rattle.keep.specs.declared.Tally.{Tally}
 use Rattle.base.specs.Option.{with_option, on_option}
 
@@ -33,6 +35,19 @@ pub record Lent : Type 0 where
 abbrev pub lent : Tally → List ℕ → List ℕ → List ℕ → List ℕ → List Float → List ℕ → Lent
 lent n rs ss ts ps xs cs =
     record { tally = n; rules = rs; selectors = ss; tests = ts; properties = ps; numbers = xs; colors = cs }
+
+-- the tables of a store as they are now
+abbrev pub lent_in : Tally → Store' → Lent
+lent_in n s = lent n s.rules.now s.selectors.now s.tests.now s.properties.now s.numbers.now s.colors.now
+
+-- which tables a store lends, and how long they are; that these stay the same says that none was put in another's place
+abbrev pub lends : Store' → List (GName × ℕ)
+lends s =
+    lent_slice s.rules ∷ lent_slice s.selectors ∷ lent_slice s.tests ∷ lent_slice s.properties ∷ lent_slice s.numbers
+    ∷ lent_slice s.colors ∷ []
+  where
+    lent_slice : {A : Type 0} → MutBor (List A) → GName × ℕ
+    lent_slice t = (t.ghost_name, length t.now)
 
 -- so many rules, and nothing else
 abbrev pub counted : ℕ → Tally

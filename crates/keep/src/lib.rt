@@ -9,10 +9,21 @@ ghost use Rattle.entries.specs.Words.{test_words};
 ghost use Rattle.keep.specs.Lent.{recolored, place_from, value_row, word_row, add_color_of, keep_number_of, keep_test_of, keep_property_of, keep_selector_of, keep_rule_of, keep_color_of};
 
 use base::refusal::Refusal;
-use base::{Range, set_word};
+use base::{Range, store};
 use color::Color;
 use cursor::Cursor;
-use table::{Name, PropertyValue, word_of};
+use table::{Name, PropertyValue, range_of};
+
+// The tables that a load fills.
+#[derive(Drop)]
+pub struct Store<'a> {
+    pub rules: &'a mut [u32],
+    pub selectors: &'a mut [u32],
+    pub tests: &'a mut [u32],
+    pub properties: &'a mut [u32],
+    pub numbers: &'a mut [f64],
+    pub colors: &'a mut [u32],
+}
 
 // How many entries each table holds, and the first of those that no entry has taken yet: a selector takes the tests since the
 // last one, a rule the selectors and properties, a test and a property the numbers.
@@ -179,9 +190,9 @@ fn recolor(colors: &mut [u32], i: usize, c: Color)
 {
     if i <= colors.len() / 8 {
         let at = i * 8 + 3;
-        set_word(colors, at, c.r as u32);
-        set_word(colors, at + 1, c.g as u32);
-        set_word(colors, at + 2, c.b as u32);
+        store(colors, at, c.r as u32);
+        store(colors, at + 1, c.g as u32);
+        store(colors, at + 2, c.b as u32);
     }
 }
 
@@ -202,7 +213,5 @@ pub fn find_color(bundle: &[u8], colors: &[u32], n: usize, name: Range) -> Optio
 fn has_name(bundle: &[u8], colors: &[u32], i: usize, name: &[u8]) -> bool
     ensures { result ≡ same name.now (within (range_at colors.now i 1) bundle.now) }
 {
-    let from = word_of(colors, i, 1);
-    let to = word_of(colors, i, 2);
-    base::same_bytes(name, base::part(bundle, Range { from, to }))
+    base::same_bytes(name, base::part(bundle, range_of(colors, i, 1)))
 }

@@ -6,7 +6,7 @@ ghost use Rattle.std.specs.Prelude.{◌≡◌, ◌+◌, ◌*◌, ◌≤◌, ◌<
 
 use base::refusal::Refusal;
 use base::{Range, byte_at, part};
-use entity::{EntityRange, Sort};
+use entity::{EntityRange, Sort, StreamPlace};
 use std::io;
 use stdio::cases::{piece_at, replay, word_at};
 
@@ -81,12 +81,8 @@ fn words_from(w: &[u8], i: usize) -> &[u8] {
 }
 
 fn refusal_is(r: Refusal, w: &[u8]) -> bool {
-    is_word(w, 0, 1)
-        && is_word(w, 1, r.number as u64)
-        && is_word(w, 2, r.reason as u64)
-        && is_word(w, 3, r.text as u64)
-        && is_word(w, 4, r.line as u64)
-        && is_word(w, 5, r.character as u64)
+    let numbers = r.numbers();
+    is_word(w, 0, 1) && (0..5).all(|i| is_word(w, i + 1, numbers[i]))
 }
 
 fn bundle_answers(s: &[u8], w: &[u8]) -> bool {
@@ -109,15 +105,11 @@ fn text_is(s: &[u8], k: usize, w: &[u8]) -> bool
     };
     range_is(a, words_from(w, 4 * k + 2))
         && range_is(b, words_from(w, 4 * k + 4))
-        && bundle::find_text(s, part(s, a)).is_some_and(|(j, t)| j == k && same_range(t, b))
+        && bundle::find_text(s, part(s, a)).is_some_and(|(j, t)| j == k && t == b)
 }
 
 fn range_is(r: Range, w: &[u8]) -> bool {
     is_word(w, 0, r.from as u64) && is_word(w, 1, r.to as u64)
-}
-
-fn same_range(a: Range, b: Range) -> bool {
-    a.from == b.from && a.to == b.to
 }
 
 fn entity_is(e: EntityRange, w: &[u8]) -> bool {
@@ -142,7 +134,11 @@ fn stream_answers(s: &[u8], sort: Sort, multipolygons: bool, w: &[u8]) -> bool {
     let mut at: usize = 0;
     for place in 0..64 {
         let told = words_from(w, 7 * place);
-        match entity::next_entity(s, sort, multipolygons, at, place) {
+        let here = StreamPlace {
+            multipolygons,
+            place,
+        };
+        match entity::next_entity(s, sort, at, here) {
             Err(r) => {
                 return refusal_is(r, told);
             }
@@ -156,7 +152,7 @@ fn stream_answers(s: &[u8], sort: Sort, multipolygons: bool, w: &[u8]) -> bool {
                 };
                 at = e.end;
                 let by_number = entity::nth_entity(s, sort, place);
-                if !entity_is(e, told) || !by_number.is_some_and(|r| same_range(r, part)) {
+                if !entity_is(e, told) || by_number != Some(part) {
                     return false;
                 }
             }

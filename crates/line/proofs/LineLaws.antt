@@ -2,13 +2,14 @@
 use Prim.Native.Nat.{ℕ, ◌+◌, ◌*◌, ◌/◌, ◌%◌, ◌≤◌, ◌<◌, min}
 use native.Mathlib.Numerals.{add-one}
 use native.Mathlib.Omega.{arith}
-use mathlib.Core.Path.{◌≡◌, refl, sym, ◌∙◌, ap, ap₂}
+use mathlib.Core.Path.{◌≡◌, refl, sym, ◌∙◌, ap, ap₂, subst}
 use mathlib.Core.List.{List, [], ◌∷◌, ◌++◌, append_assoc}
-use lib.ListN.{length, get_or, set, take, drop, length-append, drop_of_length-le, get_or-eq_default}
+use lib.ListN.{length, get_or, set, take, drop, length-append, drop_of_length-le}
 use lib.Seq.{drop-cons, set_at}
 use borrow.Author.Tests.{lt-ltb, le-ltb}
 use Rattle.base.specs.Bytes.{Bytes}
 use Rattle.base.specs.Choice.{if_true, if_false}
+use Rattle.base.specs.Refusal.{numbers_of}
 use Rattle.base.specs.declared.refusal.Refusal.{Refusal}
 use Rattle.decode.specs.Decode.{name_at}
 use Rattle.sheet.specs.Digits.{natural_digits}
@@ -92,8 +93,10 @@ put_whole out l e = e ∙ put_behind [] out l ∙ pair (omega arith) refl
 
 -- ---- digits
 
-pub digits_one : {q : ℕ × Bytes} (p : ℕ × Bytes) (x : ℕ) → x < 10 → q ≡ put p (48 + x) → q ≡ put_all p (natural_digits x)
-digits_one p x h e = put_one p (48 + x) e ∙ ap (put_all p) (sym (natural_one x h))
+pub digits_one : {q : ℕ × Bytes} (p : ℕ × Bytes) (x : ℕ) → x < 10 → q ≡ put p (48 + x % 10) → q ≡ put_all p (natural_digits x)
+digits_one p x h e =
+    let m : x % 10 ≡ x = omega arith in
+    put_one p (48 + x) (e ∙ ap (λ (k : ℕ). put p (48 + k)) m) ∙ ap (put_all p) (sym (natural_one x h))
 
 pub digits_more :
     {q r : ℕ × Bytes} (p : ℕ × Bytes) (x : ℕ)
@@ -105,35 +108,17 @@ digits_more {q = q} p x h e f =
     put_join p (natural_digits (x / 10)) ((48 + x % 10) ∷ []) e (put_one q (48 + x % 10) f)
     ∙ ap (put_all p) (sym (natural_more x h))
 
--- ---- words of the maps
-
-pub row_past : (t : List ℕ) (i j : ℕ) → length t / 131 < i → 0 ≡ get_or t (i * 131 + j) 0
-row_past t i j h = sym (get_or-eq_default t 0 (omega arith))
-
-pub word_past : (t : List ℕ) (i j : ℕ) → length t ≤ j → 0 ≡ get_or t (i * 131 + j) 0
-word_past t i j h = sym (get_or-eq_default t 0 (omega arith))
-
-pub number_past : (t : List ℕ) (i j : ℕ) → length t ≤ j → 0 ≡ get_or t (i * 131 + 2 + j) 0
-number_past t i j h = sym (get_or-eq_default t 0 (omega arith))
-
-pub number_is : (t : List ℕ) (i j w : ℕ) → w ≡ get_or t (i * 131 + (2 + j)) 0 → w ≡ get_or t (i * 131 + 2 + j) 0
-number_is t i j w e =
-    let k : i * 131 + (2 + j) ≡ i * 131 + 2 + j = omega arith in
-    e ∙ ap (λ (k : ℕ). get_or t k 0) k
-
 -- ---- the lines
 
 module _ {p q r : ℕ × Bytes} (out : Bytes) where
   pub layer_done :
       (bundle : Bytes) (selectors t : List ℕ) (i w : ℕ)
       → p ≡ put_all (0, out) (108 ∷ 97 ∷ 121 ∷ 101 ∷ 114 ∷ 32 ∷ [])
-      → w ≡ get_or t (i * 131 + 0) 0
+      → w ≡ get_or t (i * 131) 0
       → q ≡ put_all p (layer_in bundle selectors w)
       → r ≡ put q 10
       → r ≡ written (layer_line (layer_in bundle selectors (get_or t (i * 131) 0))) out
-  layer_done bundle selectors t i w e v f g =
-      let k : i * 131 + 0 ≡ i * 131 = omega arith in
-      let u : w ≡ get_or t (i * 131) 0 = v ∙ ap (λ (k : ℕ). get_or t k 0) k in
+  layer_done bundle selectors t i w e u f g =
       let l = layer_in bundle selectors w in
       put_whole out (layer_line l)
       (put_join (0, out) (108 ∷ 97 ∷ 121 ∷ 101 ∷ 114 ∷ 32 ∷ []) (l ++ (10 ∷ [])) e (put_join p l (10 ∷ []) f (put_one q 10 g)))
@@ -153,26 +138,36 @@ module _ {p q r : ℕ × Bytes} (out : Bytes) where
       ∙ ap (λ (k : Bytes). written (property_line k m) out) l
       ∙ ap (λ (k : ℕ). written (property_line (name_at bundle properties k) k) out) z
 
+-- numbers, each behind a blank, and a newline
+pub numbers : List ℕ → Bytes
+numbers [] = 10 ∷ []
+numbers (x ∷ xs) = blank_number x ++ numbers xs
+
+pub numbers_more :
+    {q : ℕ × Bytes} (p : ℕ × Bytes) (xs : List ℕ) (e : Refusal) (i : ℕ)
+    → xs ≡ numbers_of e
+    → i < 5
+    → q ≡ put_all p (blank_number (get_or xs i 0))
+    → put_all q (numbers (drop (i + 1) xs)) ≡ put_all p (numbers (drop i xs))
+unfolding numbers
+numbers_more p xs e i u h f =
+    let l : i < length xs = subst (λ (n : ℕ). i < n) (sym (ap length u)) h in
+    let k : drop i xs ≡ get_or xs i 0 ∷ drop (i + 1) xs = rw (add-one, drop-cons xs i 0 l) in
+    put_join p (blank_number (get_or xs i 0)) (numbers (drop (i + 1) xs)) f refl
+    ∙ ap (λ (t : List ℕ). put_all p (numbers t)) (sym k)
+
 pub refusal_done :
-    {p0 p1 p2 p3 p4 p5 p6 : ℕ × Bytes} (out : Bytes) (e : Refusal)
-    → p0 ≡ put_all (0, out) (114 ∷ 101 ∷ 102 ∷ 117 ∷ 115 ∷ 101 ∷ 100 ∷ [])
-    → p1 ≡ put_all p0 (blank_number e.number)
-    → p2 ≡ put_all p1 (blank_number e.reason)
-    → p3 ≡ put_all p2 (blank_number e.text)
-    → p4 ≡ put_all p3 (blank_number e.line)
-    → p5 ≡ put_all p4 (blank_number e.character)
-    → p6 ≡ put p5 10
-    → p6 ≡ written (refusal_line e) out
-refusal_done {p0 = p0} {p1 = p1} {p2 = p2} {p3 = p3} {p4 = p4} {p5 = p5} out e e0 e1 e2 e3 e4 e5 e6 =
-    let l5 = blank_number e.character ++ (10 ∷ []) in
-    let l4 = blank_number e.line ++ l5 in
-    let l3 = blank_number e.text ++ l4 in
-    let l2 = blank_number e.reason ++ l3 in
-    let l1 = blank_number e.number ++ l2 in
+    {p r : ℕ × Bytes} (q : ℕ × Bytes) (out : Bytes) (e : Refusal) (xs : List ℕ) (i : ℕ)
+    → xs ≡ numbers_of e
+    → 5 ≤ i
+    → p ≡ put_all (0, out) (114 ∷ 101 ∷ 102 ∷ 117 ∷ 115 ∷ 101 ∷ 100 ∷ [])
+    → put_all q (numbers (drop i xs)) ≡ put_all p (numbers xs)
+    → r ≡ put q 10
+    → r ≡ written (refusal_line e) out
+unfolding numbers
+refusal_done {p = p} q out e xs i u h e0 e1 e2 =
+    let ys : List ℕ = numbers_of e in
+    let f : put_all q (numbers (drop i ys)) ≡ put_all p (numbers ys) = ap (λ (t : List ℕ). put_all q (numbers (drop i t))) (sym u) ∙ e1 ∙ ap (λ (t : List ℕ). put_all p (numbers t)) u in
     put_whole out (refusal_line e)
-    (put_join (0, out) (114 ∷ 101 ∷ 102 ∷ 117 ∷ 115 ∷ 101 ∷ 100 ∷ []) l1 e0
-    (put_join p0 (blank_number e.number) l2 e1
-    (put_join p1 (blank_number e.reason) l3 e2
-    (put_join p2 (blank_number e.text) l4 e3
-    (put_join p3 (blank_number e.line) l5 e4
-    (put_join p4 (blank_number e.character) (10 ∷ []) e5 (put_one p5 10 e6)))))))
+    (put_join (0, out) (114 ∷ 101 ∷ 102 ∷ 117 ∷ 115 ∷ 101 ∷ 100 ∷ []) (numbers ys) e0
+    (put_one q 10 e2 ∙ ap (λ (t : List ℕ). put_all q (numbers t)) (sym (drop_of_length-le ys h)) ∙ f))

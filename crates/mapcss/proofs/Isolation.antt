@@ -28,7 +28,7 @@ use Rattle.printing.specs.Plate.{five_of}
 use Rattle.style.specs.declared.Settings.{Settings}
 use Rattle.styles.specs.declared.EntityStyles.{EntityStyles}
 use Rattle.shown.specs.Style.{settings_shown}
-use Rattle.shown.specs.Styles.{Styling, declined, styled, styling_of, held_by}
+use Rattle.shown.specs.Styles.{Styling, declined, styled, styling_of, styles_held}
 use Rattle.shown.proofs.StylesAre.{styles_are}
 use Rattle.mapcss.specs.Sheets.{ReadsAs}
 use Rattle.mapcss.specs.Loads.{Loads}
@@ -87,9 +87,9 @@ maps_isolated layer zoom x y r n m t u p q =
     })
 
 -- a style call that is not refused has the layers of the call for maps
-record Styled' (zoom : ℕ) (s : Settings) (x : Handed) (k : ℕ) : Type 0 where
+record Styled' (zoom : ℕ) (s : Settings) (x : Handed) (a : EntityStyles) : Type 0 where
   walked : property_maps zoom (entity_of x) (rules_of x) ≡ layers (layers_of zoom x)
-  shown : styles_shown x.bundle x.counts x.tables (styles zoom s x) k ≡ theory.styles (settings_shown s) (entity_of x) (layers_of zoom x)
+  shown : styles_shown x.bundle x.counts x.tables a ≡ theory.styles (settings_shown s) (entity_of x) (layers_of zoom x)
 
 answer_layers :
     (x : Handed) (m : Result ℕ Refusal × List ℕ) (v : Layers Value)
@@ -99,29 +99,28 @@ answer_layers x (Err e, t) v p = let z : ◌≡◌ {A = ℕ} 0 1 = cc in absurd 
 answer_layers x (Ok n, t) v p = cc
 
 styled_answer :
-    (zoom : ℕ) (s : Settings) (x : Handed) (k : ℕ) (a : Answer Value)
+    (zoom : ℕ) (s : Settings) (x : Handed) (k : EntityStyles) (a : Answer Value)
     → property_maps zoom (entity_of x) (rules_of x) ≡ a
-    → styled (styles_shown x.bundle x.counts x.tables (styles zoom s x) k) ≡ styling_of (settings_shown s) (entity_of x) a
+    → styled (styles_shown x.bundle x.counts x.tables k) ≡ styling_of (settings_shown s) (entity_of x) a
     → Styled' zoom s x k
 unfolding styling_of
 styled_answer zoom s x k (refused n) w p = let z : ◌≡◌ {A = ℕ} 0 1 = cc in absurd (omega arith)
 styled_answer zoom s x k (layers v) w p =
     let l : layers_of zoom x ≡ v = answer_layers x (maps zoom x) v (maps_told zoom x ∙ w) in
-    let q : styles_shown x.bundle x.counts x.tables (styles zoom s x) k ≡ theory.styles (settings_shown s) (entity_of x) v = cc in
+    let q : styles_shown x.bundle x.counts x.tables k ≡ theory.styles (settings_shown s) (entity_of x) v = cc in
     record {
       walked = w ∙ ap layers (sym l);
       shown = q ∙ ap (theory.styles (settings_shown s) (entity_of x)) (sym l);
     }
 
 not_refused :
-    (zoom : ℕ) (s : Settings) (x : Handed) (k : ℕ)
-    → (styles zoom s x).answer ≡ Ok k
+    (zoom : ℕ) (s : Settings) (x : Handed) (k : EntityStyles)
+    → styles zoom s x ≡ Ok k
     → Styled' zoom s x k
-unfolding held_by
+unfolding styles_held
 not_refused zoom s x k e =
     styled_answer zoom s x k (property_maps zoom (entity_of x) (rules_of x)) refl
-    (sym (ap (λ a. held_by x.bundle x.tables.selectors x.tables.numbers a (styles zoom s x).layers) e)
-    ∙ styles_told zoom s x)
+    (sym (ap (styles_held x.bundle x.tables.selectors x.tables.numbers) e) ∙ styles_told zoom s x)
 
 pub styles_isolated : StylesIsolated
 styles_isolated layer zoom x y r a s q same n m e f =

@@ -23,7 +23,7 @@ use Rattle.valid.specs.declared.Counts.{Counts}
 use Rattle.walk.specs.Maps.{finish, walk_of, maps_of}
 use Rattle.walk.specs.Run.{Run, stop, going, bind, grown, assign_at, assign_all, seek, new_row, touch_of, step_of, on_verdict, hit_of, selectors_of, rule_of, rules_of}
 use Rattle.style.specs.declared.Settings.{Settings}
-use Rattle.styles.specs.Styles.{no_styles, filled_layers, styles_from, styles_of}
+use Rattle.styles.specs.Styles.{styles_from, styles_of}
 use Rattle.styles.specs.declared.EntityStyles.{EntityStyles}
 use Rattle.canvas.specs.Canvas.{canvas_of}
 use Rattle.order.specs.declared.Key.{Key}
@@ -57,7 +57,7 @@ NextIn (Err e) = OneOf entity_numbers e.number
 NextIn (Ok None) = Unit {0}
 NextIn (Ok (Some e)) = Unit {0}
 
-abbrev StyledIn : Result ℕ Refusal → Type 0
+abbrev StyledIn : Result EntityStyles Refusal → Type 0
 StyledIn (Err e) = OneOf entity_numbers e.number
 StyledIn (Ok n) = Unit {0}
 
@@ -235,19 +235,19 @@ module _ (bundle : Bytes) (rules selectors tests properties : List ℕ) (numbers
   styles_from_in :
       (kind : ℕ) (layer : _) (s : Settings) (x : Result ℕ Refusal × List ℕ)
       → MapsIn x.0
-      → StyledIn (styles_from bundle selectors properties numbers kind layer s x).answer
-  unfolding styles_from no_styles filled_layers
+      → StyledIn (styles_from bundle selectors properties numbers kind layer s x)
+  unfolding styles_from
   styles_from_in kind layer s (Err e, t) h = h
   styles_from_in kind layer s (Ok k, t) h = tt
 
   styles_in :
       (s : Settings) (entity : Bytes)
-      → StyledIn (styles_of bundle rules selectors tests properties numbers n zoom s entity).answer
-  unfolding styles_of no_styles
+      → StyledIn (styles_of bundle rules selectors tests properties numbers n zoom s entity)
+  unfolding styles_of
   styles_in s entity =
-      pick_split (λ (x : EntityStyles). StyledIn x.answer) (tables_sound rules selectors tests properties numbers n (length bundle)) _ _
+      pick_split (λ (x : Result EntityStyles Refusal). StyledIn x) (tables_sound rules selectors tests properties numbers n (length bundle)) _ _
       (λ q.
-      single_split (λ (x : EntityStyles). StyledIn x.answer) (single_of entity) _ _ (single_in entity)
+      single_split (λ (x : Result EntityStyles Refusal). StyledIn x) (single_of entity) _ _ (single_in entity)
       (λ e h. h)
       (λ e.
       styles_from_in _ _ s _

@@ -60,7 +60,7 @@ abbrev pub layers_of : ℕ → Handed → Layers Value
 layers_of zoom x = layers_in x (maps zoom x)
 
 -- the call for styles
-abbrev pub styles : ℕ → Settings → Handed → EntityStyles
+abbrev pub styles : ℕ → Settings → Handed → Result EntityStyles Refusal
 styles zoom s x = styles_call x.bundle x.counts x.tables zoom s x.entity
 
 -- "Take any layer name, any one zoom, any two accepted sheets and any entity for each."
@@ -106,11 +106,10 @@ StylesIsolated =
     → (s q : Settings)
     → settings_shown s ≡ settings_shown q
     -- "where neither call is refused,"
-    → (n m : ℕ)
-    → (styles zoom s x).answer ≡ Ok n
-    → (styles zoom q y).answer ≡ Ok m
-    → lookup layer (styles_shown x.bundle x.counts x.tables (styles zoom s x) n)
-    ≡ lookup layer (styles_shown y.bundle y.counts y.tables (styles zoom q y) m)
+    → (a b : EntityStyles)
+    → styles zoom s x ≡ Ok a
+    → styles zoom q y ≡ Ok b
+    → lookup layer (styles_shown x.bundle x.counts x.tables a) ≡ lookup layer (styles_shown y.bundle y.counts y.tables b)
 
 -- Worth having beside it. The answers do not depend on the lengths of the lent tables: the same bundle and entity, loaded into tables of
 -- other lengths, get the same layers and styles, or the same refusal.

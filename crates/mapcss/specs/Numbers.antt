@@ -53,7 +53,7 @@ abbrev pub StylesNumbers : Type 0
 StylesNumbers =
     (bundle : Bytes) (rules selectors tests properties : List ℕ) (numbers : List Float) (n : Counts) (zoom : ℕ) (s : Settings)
     (entity : Bytes) (e : Refusal)
-    → (styles_of bundle rules selectors tests properties numbers n zoom s entity).answer ≡ Err e
+    → styles_of bundle rules selectors tests properties numbers n zoom s entity ≡ Err e
     → OneOf entity_numbers e.number
 
 -- a drawing list of nodes,

@@ -4,17 +4,18 @@ use native.Mathlib.Omega.{arith}
 use mathlib.Core.Path.{◌≡◌, refl, sym, ◌∙◌, ap}
 use mathlib.Core.Bool.{Bool, true, false, ◌&&◌}
 use mathlib.Core.List.{map}
-use lib.Dec.{eqb, ltb}
-use borrow.Author.Tests.{ne_eqb, le-leb, lt-leb, ltb-true, ltb-false}
-use Rattle.base.specs.Choice.{pick, by-test}
+use lib.Dec.{ltb}
+use borrow.Author.Tests.{le-leb, lt-leb, ltb-true, ltb-false}
+use Rattle.base.specs.Choice.{by-test}
 use Rattle.base.specs.Entity.{Entity}
 use Rattle.sheet.specs.Sheet.{Test, Selector}
 use Rattle.cascade.specs.Match.{Verdict, pass, fail, out, verdict_on, at_least, at_most, fits_type, applies, and_then, tests_verdict, verdict}
 use Rattle.decode.specs.Decode.{places, level_at, type_at}
 use Rattle.std.specs.Prelude.{Result, Ok, Err}
-use Rattle.matching.specs.Matching.{fit_of}
+use Rattle.matching.specs.Matching.{fit_of, type_of}
+use Rattle.table.specs.Kind.{object_kind}
 use Rattle.matching.specs.declared.OutOfRange.{OutOfRange}
-use Rattle.matching.proofs.Tests.{Not}
+use Rattle.matching.proofs.Tests.{Not, picked}
 
 -- zooms, stored plus one
 module _ (z : ℕ) where
@@ -44,20 +45,10 @@ module _ (z : ℕ) where
       pub zoom_high : Not y 0 → ltb z y ≡ (at_least z (level_at w) && at_most z (level_at v))
       zoom_high e = rw (low_holds w (omega arith), ← q, high_is y e)
 
--- a type that is none of the first five is area
-pub type_area :
-    (k z : ℕ)
-    → (((((Unit {0} × Not k 1) × Not k 2) × Not k 3) × Not k 4) × Not k 5)
-    → eqb z 2 ≡ fits_type (type_at k) z
-unfolding type_at fits_type pick
-type_area k z h =
-    rw (
-      ne_eqb k 1 h.0.0.0.0.1,
-      ne_eqb k 2 h.0.0.0.1,
-      ne_eqb k 3 h.0.0.1,
-      ne_eqb k 4 h.0.1,
-      ne_eqb k 5 h.1,
-    )
+-- the type by the kind of its number
+pub type_is : (k : ℕ) → type_at k ≡ type_of (object_kind k)
+unfolding type_at object_kind
+type_is k = picked type_of _ _ _ refl (picked type_of _ _ _ refl (picked type_of _ _ _ refl (picked type_of _ _ _ refl (picked type_of _ _ _ refl refl))))
 
 -- the tests that are left
 abbrev fit_then : Result Bool OutOfRange → Result Bool OutOfRange → Result Bool OutOfRange

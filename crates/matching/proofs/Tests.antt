@@ -1,22 +1,25 @@
 -- One test: its key, its kind, and its answer on an absent tag and on a value.
 use Prim.Native.Nat.{ℕ}
-use mathlib.Core.Path.{◌≡◌, refl, sym, ◌∙◌, ap, subst}
+use mathlib.Core.Path.{◌≡◌, refl, sym, ◌∙◌, ap}
 use mathlib.Core.Bool.{Bool, true, false, not}
 use mathlib.Core.List.{List, [], ◌∷◌, ◌++◌, append_assoc}
 use mathlib.Core.Option.{Option as Option', none, some}
 use lib.Dec.{eqb}
 use lib.Ieee.{Float}
 use lib.ListN.{get_or}
-use borrow.Author.Tests.{eq-eqb, ne_eqb, eqb-true, eqb-false}
+use borrow.Author.Tests.{eq-eqb, ne_eqb}
 use Rattle.base.specs.Bytes.{Bytes, ascii, same, within}
-use Rattle.base.specs.Choice.{pick, if_true, if_false, pick_split, by-test, via}
+use Rattle.base.specs.Choice.{pick, if_true, if_false, via}
 use Rattle.base.specs.Table.{zero_float}
 use Rattle.base.specs.declared.Range.{Range}
 use Rattle.group.specs.Pair.{Ranges, pairs_at}
 use Rattle.entity.specs.Layout.{value_of}
 use Rattle.entity.specs.declared.EntityRange.{EntityRange}
 use Rattle.sheet.specs.Digits.{digits_for}
-use Rattle.sheet.specs.Sheet.{NumericTest, Test, numeric}
+use Rattle.sheet.specs.Sheet.{NumericTest, Test, unary, text, numeric, exists, not_exists, is_true, is_false, equal, not_equal, less, less_or_equal, greater, greater_or_equal}
+use Rattle.table.specs.Kind.{test_kind}
+use Rattle.table.specs.declared.kind.TestKind.{TestKind}
+use Rattle.table.specs.declared.kind.TestKind.TheVariants.{Exists, NotExists, True, False, TextEqual, TextNotEqual, NumberEqual, NumberNotEqual, Less, LessOrEqual, Greater, GreaterOrEqual}
 use Rattle.table.specs.Value.{word_at, range_at}
 use Rattle.cascade.specs.Number.{reads, malformed, out_of_range, tag_number, TagNumber as Number}
 use Rattle.cascade.specs.Match.{tag, of_bool, present, true_value, unary_holds, equals, text_holds, compares, number_verdict, numeric_verdict, test_key, test_verdict, verdict_on}
@@ -99,6 +102,55 @@ module _ (bundle : Bytes) (t : List ℕ) (s : Bytes) (ps : List Ranges) (i w : �
         ∙ ap (λ z. within (range_at t i 1) bundle ++ (58 ∷ z)) (r ∙ ap (λ z. within z bundle) f)
         ∙ sym (append_assoc (within (range_at t i 1) bundle) (58 ∷ []) (within (range_at t i 4) bundle))))
 
+pub picked :
+    {A B : Type 0} (f : A → B) (b : Bool) (x y : A) {u w : B}
+    → u ≡ f x
+    → w ≡ f y
+    → pick b u w ≡ f (pick b x y)
+unfolding pick
+picked f true x y p q = p
+picked f false x y p q = q
+
+-- what a test of a kind asks of a tag: a text, or a number
+abbrev test_of : TestKind → Bytes → Bytes → Float → Test
+test_of Exists k s x = unary exists k
+test_of NotExists k s x = unary not_exists k
+test_of True k s x = unary is_true k
+test_of False k s x = unary is_false k
+test_of TextEqual k s x = text equal k s
+test_of TextNotEqual k s x = text not_equal k s
+test_of NumberEqual k s x = text equal k (digits_for x)
+test_of NumberNotEqual k s x = text not_equal k (digits_for x)
+test_of Less k s x = numeric less k x
+test_of LessOrEqual k s x = numeric less_or_equal k x
+test_of Greater k s x = numeric greater k x
+test_of GreaterOrEqual k s x = numeric greater_or_equal k x
+
+-- a kind that is none of the first eight compares numbers
+pub compares_numbers :
+    (n : TestKind) (k s : Bytes) (x : Float)
+    → (n ≡ Exists → ⊥)
+    → (n ≡ NotExists → ⊥)
+    → (n ≡ True → ⊥)
+    → (n ≡ False → ⊥)
+    → (n ≡ TextEqual → ⊥)
+    → (n ≡ TextNotEqual → ⊥)
+    → (n ≡ NumberEqual → ⊥)
+    → (n ≡ NumberNotEqual → ⊥)
+    → test_of n k s x ≡ numeric (comparison_of n) k x
+compares_numbers Exists k s x a b c d e f g h = absurd (a refl)
+compares_numbers NotExists k s x a b c d e f g h = absurd (b refl)
+compares_numbers True k s x a b c d e f g h = absurd (c refl)
+compares_numbers False k s x a b c d e f g h = absurd (d refl)
+compares_numbers TextEqual k s x a b c d e f g h = absurd (e refl)
+compares_numbers TextNotEqual k s x a b c d e f g h = absurd (f refl)
+compares_numbers NumberEqual k s x a b c d e f g h = absurd (g refl)
+compares_numbers NumberNotEqual k s x a b c d e f g h = absurd (h refl)
+compares_numbers Less k s x a b c d e f g h = refl
+compares_numbers LessOrEqual k s x a b c d e f g h = refl
+compares_numbers Greater k s x a b c d e f g h = refl
+compares_numbers GreaterOrEqual k s x a b c d e f g h = refl
+
 module _ (bundle : Bytes) (t : List ℕ) (xs : List Float) (i : ℕ) where
   abbrev bound : Float
   bound = get_or xs (word_at t i 6) zero_float
@@ -106,124 +158,121 @@ module _ (bundle : Bytes) (t : List ℕ) (xs : List Float) (i : ℕ) where
   abbrev key : Bytes
   key = key_at bundle t i
 
+  abbrev text_there : Bytes
+  text_there = within (range_at t i 6) bundle
+
+  test_is : test_at bundle t xs i ≡ test_of (test_kind (word_at t i 0)) key text_there bound
+  unfolding test_at test_kind
+  test_is =
+      let f : TestKind → Test = λ k. test_of k key text_there bound in
+      picked f _ _ _ refl
+      (picked f _ _ _ refl
+      (picked f _ _ _ refl
+      (picked f _ _ _ refl
+      (picked f _ _ _ refl
+      (picked f _ _ _ refl
+      (picked f _ _ _ refl
+      (picked f _ _ _ refl
+      (picked f _ _ _ refl
+      (picked f _ _ _ refl
+      (picked f _ _ _ refl refl))))))))))
+
+  test_key_of : (k : TestKind) → test_key (test_of k key text_there bound) ≡ key
+  test_key_of Exists = refl
+  test_key_of NotExists = refl
+  test_key_of True = refl
+  test_key_of False = refl
+  test_key_of TextEqual = refl
+  test_key_of TextNotEqual = refl
+  test_key_of NumberEqual = refl
+  test_key_of NumberNotEqual = refl
+  test_key_of Less = refl
+  test_key_of LessOrEqual = refl
+  test_key_of Greater = refl
+  test_key_of GreaterOrEqual = refl
+
   test_key_lem : test_key (test_at bundle t xs i) ≡ key
-  unfolding test_at
-  test_key_lem =
-      let P : Test → Type 0 = λ x. test_key x ≡ key in
-      pick_split P _ _ _ (λ h. refl) λ h.
-      pick_split P _ _ _ (λ h. refl) λ h.
-      pick_split P _ _ _ (λ h. refl) λ h.
-      pick_split P _ _ _ (λ h. refl) λ h.
-      pick_split P _ _ _ (λ h. refl) λ h.
-      pick_split P _ _ _ (λ h. refl) λ h.
-      pick_split P _ _ _ (λ h. refl) λ h.
-      pick_split P _ _ _ (λ h. refl) λ h.
-      pick_split P _ _ _ (λ h. refl) λ h.
-      pick_split P _ _ _ (λ h. refl) λ h.
-      pick_split P _ _ _ (λ h. refl) λ h. refl
-
-  abbrev Numeric : ℕ → Type 0
-  Numeric k = (((((((Unit {0} × Not k 1) × Not k 2) × Not k 3) × Not k 4) × Not k 5) × Not k 6) × Not k 7) × Not k 8
-
-  -- a kind that is none of the first eight compares numbers
-  numeric_is : Numeric (word_at t i 0) → test_at bundle t xs i ≡ numeric (comparison_of (word_at t i 0)) key bound
-  unfolding test_at comparison_of pick
-  numeric_is h =
-      let k = word_at t i 0 in
-      rw (
-        ne_eqb k 1 h.0.0.0.0.0.0.0.1,
-        ne_eqb k 2 h.0.0.0.0.0.0.1,
-        ne_eqb k 3 h.0.0.0.0.0.1,
-        ne_eqb k 4 h.0.0.0.0.1,
-        ne_eqb k 5 h.0.0.0.1,
-        ne_eqb k 6 h.0.0.1,
-        ne_eqb k 7 h.0.1,
-        ne_eqb k 8 h.1,
-      )
-      (by-test (eqb k 9)
-      (λ e. rw e)
-      (λ e. by-test (eqb k 10) (λ f. rw (e, f)) (λ f. by-test (eqb k 11) (λ g. rw (e, f, g)) (λ g. rw (e, f, g)))))
+  test_key_lem = ap test_key test_is ∙ test_key_of (test_kind (word_at t i 0))
 
   -- on an absent tag
   abbrev none_fit : Result Bool OutOfRange
   none_fit = fit_of (test_verdict (test_at bundle t xs i) none)
 
-  absent_number : Numeric (word_at t i 0) → Ok (absent_of (word_at t i 0)) ≡ none_fit
-  unfolding absent_of pick test_verdict numeric_verdict
-  absent_number h =
-      let k = word_at t i 0 in
-      rw (numeric_is h, ne_eqb k 2 h.0.0.0.0.0.0.1, ne_eqb k 4 h.0.0.0.0.1, ne_eqb k 6 h.0.0.1, ne_eqb k 8 h.1)
+  absent_kind : (k : TestKind) → Ok (absent_of k) ≡ fit_of (test_verdict (test_of k key text_there bound) none)
+  unfolding test_verdict unary_holds text_holds equals numeric_verdict present true_value
+  absent_kind Exists = refl
+  absent_kind NotExists = refl
+  absent_kind True = refl
+  absent_kind False = refl
+  absent_kind TextEqual = refl
+  absent_kind TextNotEqual = refl
+  absent_kind NumberEqual = refl
+  absent_kind NumberNotEqual = refl
+  absent_kind Less = refl
+  absent_kind LessOrEqual = refl
+  absent_kind Greater = refl
+  absent_kind GreaterOrEqual = refl
 
-  by_kind : {A : Type 0} (n : ℕ) → (word_at t i 0 ≡ n → A) → (Not (word_at t i 0) n → A) → A
-  by_kind n f g = by-test (eqb (word_at t i 0) n) (λ e. f (eqb-true _ n e)) (λ e. g (eqb-false _ n e))
-
-  absent_is : Ok (absent_of (word_at t i 0)) ≡ none_fit
-  unfolding absent_of pick test_at test_verdict unary_holds text_holds equals present true_value
-  absent_is =
-      by_kind 1 (λ h. rw h) λ a.
-      by_kind 2 (λ h. rw h) λ b.
-      by_kind 3 (λ h. rw h) λ c.
-      by_kind 4 (λ h. rw h) λ d.
-      by_kind 5 (λ h. rw h) λ e.
-      by_kind 6 (λ h. rw h) λ f.
-      by_kind 7 (λ h. rw h) λ g.
-      by_kind 8 (λ h. rw h) λ l.
-      absent_number ((((((((tt, a), b), c), d), e), f), g), l)
+  absent_is : Ok (absent_of (test_kind (word_at t i 0))) ≡ none_fit
+  absent_is = absent_kind (test_kind (word_at t i 0)) ∙ ap (λ z. fit_of (test_verdict z none)) (sym test_is)
 
   -- on a value
-  module _ (v : Bytes) (k : ℕ) (p : k ≡ word_at t i 0) where
+  module _ (v : Bytes) (k : TestKind) (p : k ≡ test_kind (word_at t i 0)) where
     abbrev some_fit : Result Bool OutOfRange
     some_fit = fit_of (test_verdict (test_at bundle t xs i) (some v))
 
-    pub value_exists : k ≡ 1 → Ok true ≡ some_fit
-    unfolding test_at pick test_verdict unary_holds present
-    value_exists h = rw (via p h)
+    asks : (n : TestKind) → k ≡ n → test_at bundle t xs i ≡ test_of n key text_there bound
+    asks n h = test_is ∙ ap (λ z. test_of z key text_there bound) (via p h)
 
-    pub value_not_exists : k ≡ 2 → Ok false ≡ some_fit
-    unfolding test_at pick test_verdict unary_holds present
-    value_not_exists h = rw (via p h)
+    pub value_exists : k ≡ Exists → Ok true ≡ some_fit
+    unfolding test_verdict unary_holds present
+    value_exists h = rw (asks Exists h)
+
+    pub value_not_exists : k ≡ NotExists → Ok false ≡ some_fit
+    unfolding test_verdict unary_holds present
+    value_not_exists h = rw (asks NotExists h)
 
     module _ (b : Bool) where
-      pub value_true : k ≡ 3 → b ≡ true_value (some v) → Ok b ≡ some_fit
-      unfolding test_at pick test_verdict unary_holds
-      value_true h e = rw (via p h, ← e) (ok_fit b)
+      pub value_true : k ≡ True → b ≡ true_value (some v) → Ok b ≡ some_fit
+      unfolding test_verdict unary_holds
+      value_true h e = rw (asks True h, ← e) (ok_fit b)
 
-      pub value_false : k ≡ 4 → b ≡ true_value (some v) → Ok (not b) ≡ some_fit
-      unfolding test_at pick test_verdict unary_holds
-      value_false h e = rw (via p h, ← e) (ok_fit (not b))
+      pub value_false : k ≡ False → b ≡ true_value (some v) → Ok (not b) ≡ some_fit
+      unfolding test_verdict unary_holds
+      value_false h e = rw (asks False h, ← e) (ok_fit (not b))
 
-      module _ (a : Range) (x : Bytes) (e : a ≡ range_at t i 6) (f : x ≡ within a bundle) (g : b ≡ same v x) where
-        same_text : b ≡ same v (within (range_at t i 6) bundle)
-        same_text = g ∙ ap (same v) (f ∙ ap (λ z. within z bundle) e)
+      module _ (x : Bytes) (f : x ≡ text_there) (g : b ≡ same v x) where
+        same_text : b ≡ same v text_there
+        same_text = g ∙ ap (same v) f
 
-        pub value_equal : k ≡ 5 → Ok b ≡ some_fit
-        unfolding test_at pick test_verdict text_holds equals
-        value_equal h = rw (via p h, ← same_text) (ok_fit b)
+        pub value_equal : k ≡ TextEqual → Ok b ≡ some_fit
+        unfolding test_verdict text_holds equals
+        value_equal h = rw (asks TextEqual h, ← same_text) (ok_fit b)
 
-        pub value_not_equal : k ≡ 6 → Ok (not b) ≡ some_fit
-        unfolding test_at pick test_verdict text_holds equals
-        value_not_equal h = rw (via p h, ← same_text) (ok_fit (not b))
+        pub value_not_equal : k ≡ TextNotEqual → Ok (not b) ≡ some_fit
+        unfolding test_verdict text_holds equals
+        value_not_equal h = rw (asks TextNotEqual h, ← same_text) (ok_fit (not b))
 
       module _ (y : Float) (e : y ≡ bound) (g : b ≡ same v (digits_for y)) where
         same_digits : b ≡ same v (digits_for bound)
         same_digits = g ∙ ap (λ z. same v (digits_for z)) e
 
-        pub value_digits : k ≡ 7 → Ok b ≡ some_fit
-        unfolding test_at pick test_verdict text_holds equals
-        value_digits h = rw (via p h, ← same_digits) (ok_fit b)
+        pub value_digits : k ≡ NumberEqual → Ok b ≡ some_fit
+        unfolding test_verdict text_holds equals
+        value_digits h = rw (asks NumberEqual h, ← same_digits) (ok_fit b)
 
-        pub value_not_digits : k ≡ 8 → Ok (not b) ≡ some_fit
-        unfolding test_at pick test_verdict text_holds equals
-        value_not_digits h = rw (via p h, ← same_digits) (ok_fit (not b))
+        pub value_not_digits : k ≡ NumberNotEqual → Ok (not b) ≡ some_fit
+        unfolding test_verdict text_holds equals
+        value_not_digits h = rw (asks NumberNotEqual h, ← same_digits) (ok_fit (not b))
 
     pub value_number :
         (y : Float) (r : Result Bool OutOfRange)
-        → Numeric k
+        → test_of k key text_there bound ≡ numeric (comparison_of k) key bound
         → y ≡ bound
         → r ≡ fit_of (number_verdict (comparison_of k) y (tag_number v))
         → r ≡ some_fit
     unfolding test_verdict numeric_verdict
-    value_number y r h e q = rw (numeric_is (subst Numeric p h), ← p, ← e) q
+    value_number y r h e q = rw (asks k refl, h, ← e) q
 
   -- on the tag that it names
   module _ (s : Bytes) (e : EntityRange) (v : Option Range) (g : v ≡ value_in s key (pairs_at e.count s e.tags)) where
@@ -238,7 +287,7 @@ module _ (bundle : Bytes) (t : List ℕ) (xs : List Float) (i : ℕ) where
         ap (λ o. fit_of (test_verdict (test_at bundle t xs i) o))
         (sym (ap (tag (value_of s e)) test_key_lem ∙ tag_value s key e ∙ ap read (sym g ∙ h)))
 
-    pub test_absent : v ≡ None → (k : ℕ) → k ≡ word_at t i 0 → (b : Bool) → b ≡ absent_of k → Ok b ≡ test_fit
+    pub test_absent : v ≡ None → (k : TestKind) → k ≡ test_kind (word_at t i 0) → (b : Bool) → b ≡ absent_of k → Ok b ≡ test_fit
     unfolding on_option
     test_absent h k p b q = ap Ok (q ∙ ap absent_of p) ∙ absent_is ∙ tag_is None h
 

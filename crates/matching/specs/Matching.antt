@@ -1,7 +1,10 @@
 -- The verdicts of the theory, as the code answers them.
-use Rattle.std.specs.Prelude.{ℕ, eqb, Bool, true, false, Result, Ok, Err}
-use Rattle.base.specs.Choice.{pick}
-use Rattle.sheet.specs.Sheet.{NumericTest, less, less_or_equal, greater, greater_or_equal}
+use Rattle.std.specs.Prelude.{Bool, true, false, Result, Ok, Err}
+use Rattle.sheet.specs.Sheet.{ObjectType, all, canvas, meta, node, way, area, NumericTest, less, less_or_equal, greater, greater_or_equal}
+use Rattle.table.specs.declared.kind.TestKind.{TestKind}
+use Rattle.table.specs.declared.kind.TestKind.TheVariants.{Exists, NotExists, True, False, TextEqual, TextNotEqual, NumberEqual, NumberNotEqual, Less, LessOrEqual, Greater, GreaterOrEqual}
+use Rattle.table.specs.declared.kind.ObjectKind.{ObjectKind}
+use Rattle.table.specs.declared.kind.ObjectKind.TheVariants.{All, Canvas, Meta, Node, Way, Area}
 use Rattle.cascade.specs.Match.{Verdict, pass, fail, out}
 use Rattle.matching.specs.declared.OutOfRange.{OutOfRange}
 
@@ -14,14 +17,40 @@ fit_of pass = Ok true
 fit_of fail = Ok false
 fit_of out = Err out_of_range
 
+abbrev pub type_of : ObjectKind → ObjectType
+type_of All = all
+type_of Canvas = canvas
+type_of Meta = meta
+type_of Node = node
+type_of Way = way
+type_of Area = area
+
 -- the comparison of a numeric test, by its kind
-unfoldable pub comparison_of : ℕ → NumericTest
-comparison_of k = pick (eqb k 9) less (pick (eqb k 10) less_or_equal (pick (eqb k 11) greater greater_or_equal))
+abbrev pub comparison_of : TestKind → NumericTest
+comparison_of Less = less
+comparison_of LessOrEqual = less_or_equal
+comparison_of Greater = greater
+comparison_of Exists = greater_or_equal
+comparison_of NotExists = greater_or_equal
+comparison_of True = greater_or_equal
+comparison_of False = greater_or_equal
+comparison_of TextEqual = greater_or_equal
+comparison_of TextNotEqual = greater_or_equal
+comparison_of NumberEqual = greater_or_equal
+comparison_of NumberNotEqual = greater_or_equal
+comparison_of GreaterOrEqual = greater_or_equal
 
 -- the answer on a tag that is absent, by the test's kind
-unfoldable pub absent_of : ℕ → Bool
-absent_of k =
-    pick (eqb k 2) true
-    (pick (eqb k 4) true
-    (pick (eqb k 6) true
-    (pick (eqb k 8) true false)))
+abbrev pub absent_of : TestKind → Bool
+absent_of Exists = false
+absent_of NotExists = true
+absent_of True = false
+absent_of False = true
+absent_of TextEqual = false
+absent_of TextNotEqual = true
+absent_of NumberEqual = false
+absent_of NumberNotEqual = true
+absent_of Less = false
+absent_of LessOrEqual = false
+absent_of Greater = false
+absent_of GreaterOrEqual = false

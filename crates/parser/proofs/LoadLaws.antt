@@ -36,17 +36,6 @@ use Rattle.base.specs.Option.{on_result}
 
 -- ---- six tables at once
 
-pub held_same :
-    {rs ss ts ps cs rs' ss' ts' ps' cs' : List ℕ} {xs xs' : List Float}
-    → rs ≡ rs'
-    → ss ≡ ss'
-    → ts ≡ ts'
-    → ps ≡ ps'
-    → xs ≡ xs'
-    → cs ≡ cs'
-    → held rs ss ts ps xs cs ≡ held rs' ss' ts' ps' xs' cs'
-held_same a b c d e f = rw (a, b, c, d, e, f) refl
-
 blanked :
     (l : Lengths) (rs ss ts ps : List ℕ) (xs : List Float) (cs : List ℕ)
     → held rs ss ts ps xs cs ≡ zeros l
@@ -150,12 +139,7 @@ module _ (bundle : Bytes) (l : Lengths) (rs ss ts ps : List ℕ) (xs : List Floa
 pub again_zero :
     (l k : Lengths) {h : Held} {e : Refusal} {w : Result Counts Refusal × Held}
     → h ≡ zeros k
-    → k.rules ≡ l.rules
-    → k.selectors ≡ l.selectors
-    → k.tests ≡ l.tests
-    → k.properties ≡ l.properties
-    → k.numbers ≡ l.numbers
-    → k.colors ≡ l.colors
+    → k ≡ l
     → (Err e, zeros l) ≡ w
     → (Err e, h) ≡ w
-again_zero l k {h} {e} z a b c d f g q = ap (λ (h : Held). (Err e, h)) (z ∙ rw (a, b, c, d, f, g) refl) ∙ q
+again_zero l k {h} {e} z a q = ap (λ (h : Held). (Err e, h)) (z ∙ ap zeros a) ∙ q

@@ -16,6 +16,7 @@ use Rattle.keep.specs.Encode.{Lengths, capacities, tally_of, lent_of}
 use Rattle.keep.specs.Lent.{Lent, range, none_yet}
 use Rattle.keep.specs.Source.{reading}
 use Rattle.input.specs.Source.{Spot, spot, source}
+use Rattle.keep.specs.declared.Store.{Store}
 use Rattle.keep.specs.declared.Tally.{Tally}
 use Rattle.sheets.specs.Sheets.{Parses}
 use Rattle.parser.specs.declared.Counts.{Counts}
@@ -32,6 +33,10 @@ pub record Held : Type 0 where
 
 abbrev pub held : List ℕ → List ℕ → List ℕ → List ℕ → List Float → List ℕ → Held
 held rs ss ts ps xs cs = record { rules = rs; selectors = ss; tests = ts; properties = ps; numbers = xs; colors = cs }
+
+-- those of a store
+abbrev pub held_by : Store → Held
+held_by s = held s.rules.now s.selectors.now s.tests.now s.properties.now s.numbers.now s.colors.now
 
 -- all zero
 abbrev pub zeros : Lengths → Held

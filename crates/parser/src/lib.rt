@@ -2,14 +2,14 @@
 #![tactic(auto)]
 
 ghost use Rattle.std.specs.Prelude.{◌≡◌, length};
-ghost use Rattle.keep.specs.Encode.{lengths};
-ghost use Rattle.keep.specs.Lent.{lent};
-ghost use Rattle.parser.specs.Load.{held, zeros, first_text, nothing_yet, BundleRead, load_of};
+ghost use Rattle.keep.specs.Encode.{lengths, lengths_by};
+ghost use Rattle.keep.specs.Lent.{lent_in, lends};
+ghost use Rattle.parser.specs.Load.{held, zeros, held_by, counts_of, first_text, nothing_yet, BundleRead, load_of};
 
+use base::Range;
 use base::refusal::Refusal;
-use base::{Range, zero_floats, zero_words};
-use input::Source;
-use keep::Tally;
+use input::{Source, Text};
+use keep::{Store, Tally};
 use sheets::parse;
 
 // How many entries each table holds.
@@ -21,6 +21,36 @@ pub struct Counts {
     pub properties: usize,
     pub numbers: usize,
     pub colors: usize,
+}
+
+impl From<Tally> for Counts {
+    fn from(n: Tally) -> Counts
+        ensures { result ≡ counts_of n }
+    {
+        Counts {
+            rules: n.rules,
+            selectors: n.selectors,
+            tests: n.tests,
+            properties: n.properties,
+            numbers: n.numbers,
+            colors: n.colors,
+        }
+    }
+}
+
+// The counts that styling reads.
+impl From<Counts> for valid::Counts {
+    fn from(n: Counts) -> valid::Counts
+        ensures { result ≡ record { rules = n.rules; selectors = n.selectors; tests = n.tests; properties = n.properties; numbers = n.numbers } }
+    {
+        valid::Counts {
+            rules: n.rules,
+            selectors: n.selectors,
+            tests: n.tests,
+            properties: n.properties,
+            numbers: n.numbers,
+        }
+    }
 }
 
 // Loads a bundle's sheet into six tables. What they held before does not matter; a refusal leaves all of them zero to their end,
@@ -36,70 +66,59 @@ pub fn load(
 ) -> Result<Counts, Refusal>
     ensures { (result, held rules.new selectors.new tests.new properties.new numbers.new colors.new) ≡ load_of bundle.now (lengths (length rules.old) (length selectors.old) (length tests.old) (length properties.old) (length numbers.old) (length colors.old)) }
 {
-    blank(rules, selectors, tests, properties, numbers, colors);
-    match read_bundle(bundle, rules, selectors, tests, properties, numbers, colors) {
-        Err(e) => {
-            blank(rules, selectors, tests, properties, numbers, colors);
-            Err(e)
-        }
-        Ok(n) => Ok(Counts {
-            rules: n.rules,
-            selectors: n.selectors,
-            tests: n.tests,
-            properties: n.properties,
-            numbers: n.numbers,
-            colors: n.colors,
-        }),
-    }
-}
-
-// Every table is zero.
-pub fn blank(
-    rules: &mut [u32],
-    selectors: &mut [u32],
-    tests: &mut [u32],
-    properties: &mut [u32],
-    numbers: &mut [f64],
-    colors: &mut [u32],
-)
-    ensures { held rules.new selectors.new tests.new properties.new numbers.new colors.new ≡ zeros (lengths (length rules.old) (length selectors.old) (length tests.old) (length properties.old) (length numbers.old) (length colors.old)) }
-{
-    zero_words(rules);
-    zero_words(selectors);
-    zero_words(tests);
-    zero_words(properties);
-    zero_floats(numbers);
-    zero_words(colors);
-}
-
-// Checks the bundle, and reads its first text at depth 8.
-fn read_bundle(
-    bundle: &[u8],
-    rules: &mut [u32],
-    selectors: &mut [u32],
-    tests: &mut [u32],
-    properties: &mut [u32],
-    numbers: &mut [f64],
-    colors: &mut [u32],
-) -> Result<Tally, Refusal>
-    ensures { BundleRead bundle.now (lent nothing_yet rules.old selectors.old tests.old properties.old numbers.old colors.old) (λ m. lent m rules.new selectors.new tests.new properties.new numbers.new colors.new) result }
-{
-    let _ = bundle::check_bundle(bundle)?;
-    parse(
-        bundle,
-        Source {
-            number: 0,
-            range: first_text(bundle),
-        },
-        8,
-        none_yet(),
+    let mut store = Store {
         rules,
         selectors,
         tests,
         properties,
         numbers,
         colors,
-    )
+    };
+    fill(bundle, &mut store)
+}
+
+// The same into a store.
+fn fill(bundle: &[u8], store: &mut Store<'_>) -> Result<Counts, Refusal>
+    ensures loaded { (result, held_by store.new) ≡ load_of bundle.now (lengths_by store.old) }
+    ensures lends { lends store.new ≡ lends store.old }
+{
+    blank(store);
+    match read_bundle(bundle, store) {
+        Err(e) => {
+            blank(store);
+            Err(e)
+        }
+        Ok(n) => Ok(Counts::from(n)),
+    }
+}
+
+// Every table is zero.
+pub fn blank(store: &mut Store<'_>)
+    ensures zero { held_by store.new ≡ zeros (lengths_by store.old) }
+    ensures lends { lends store.new ≡ lends store.old }
+{
+    store.rules.fill(0);
+    store.selectors.fill(0);
+    store.tests.fill(0);
+    store.properties.fill(0);
+    store.numbers.fill(0.0);
+    store.colors.fill(0);
+}
+
+// Checks the bundle, and reads its first text at depth 8.
+fn read_bundle(bundle: &[u8], store: &mut Store<'_>) -> Result<Tally, Refusal>
+    ensures read { BundleRead bundle.now (lent_in nothing_yet store.old) (λ m. lent_in m store.new) result }
+    ensures lends { lends store.new ≡ lends store.old }
+{
+    let _ = bundle::check_bundle(bundle)?;
+    let text = Text {
+        bundle,
+        source: Source {
+            number: 0,
+            range: first_text(bundle),
+        },
+    };
+    parse(text, 8, none_yet(), store)
 }
 
 // Where the sheet stands in the bundle.

@@ -5,6 +5,7 @@ ghost use Rattle.std.specs.Prelude.{◌≡◌, length};
 
 use base::Range;
 use line::{layer_line, property_count, property_line, refusal_line};
+use printing::Buffers;
 use std::io;
 use std::io::Write;
 
@@ -29,55 +30,28 @@ fn line_buffer() -> [u8; 60064]
 }
 
 fn print_plate<W: Write>(out: &mut W, input: &[u8]) -> io::Result<()> {
-    let mut rules = [0u32; 4096];
-    let mut selectors = [0u32; 4096];
-    let mut tests = [0u32; 4096];
-    let mut properties = [0u32; 4096];
-    let mut numbers = [0.0f64; 512];
-    let mut colors = [0u32; 4096];
-    let mut maps = [0u32; 4323];
+    let mut buffers = Buffers::new();
     let mut line = line_buffer();
-    match printing::plate(
-        input,
-        &mut rules,
-        &mut selectors,
-        &mut tests,
-        &mut properties,
-        &mut numbers,
-        &mut colors,
-        &mut maps,
-    ) {
+    match printing::plate(input, &mut buffers) {
         Err(e) => {
             let n = refusal_line(e, &mut line);
             out.write_all(first(&line, n))
         }
-        Ok((b, k)) => {
-            print_layers(
-                out,
-                base::part(input, b),
-                &selectors,
-                &properties,
-                &maps,
-                k,
-                &mut line,
-            )
-        }
+        Ok((b, k)) => print_layers(out, base::part(input, b), &buffers, k, &mut line),
     }
 }
 
 fn print_layers<W: Write>(
     out: &mut W,
     bundle: &[u8],
-    selectors: &[u32; 4096],
-    properties: &[u32; 4096],
-    maps: &[u32; 4323],
+    buffers: &Buffers,
     k: usize,
     line: &mut [u8],
 ) -> io::Result<()> {
     for i in 0..k {
-        let n = layer_line(bundle, &selectors[..], &maps[..], i, line);
+        let n = layer_line(bundle, &buffers.selectors[..], &buffers.maps[..], i, line);
         out.write_all(first(line, n))?;
-        print_properties(out, bundle, &properties[..], &maps[..], i, line)?;
+        print_properties(out, bundle, buffers, i, line)?;
     }
     Ok(())
 }
@@ -85,11 +59,12 @@ fn print_layers<W: Write>(
 fn print_properties<W: Write>(
     out: &mut W,
     bundle: &[u8],
-    properties: &[u32],
-    maps: &[u32],
+    buffers: &Buffers,
     i: usize,
     line: &mut [u8],
 ) -> io::Result<()> {
+    let properties = &buffers.properties[..];
+    let maps = &buffers.maps[..];
     let count = property_count(maps, i) as usize;
     for j in 0..count {
         let n = property_line(bundle, properties, maps, i, j, line);

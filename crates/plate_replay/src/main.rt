@@ -5,6 +5,7 @@
 ghost use Rattle.std.specs.Prelude.{◌≡◌, ◌+◌, ◌≤◌, ◌<◌, length, IfSome};
 
 use base::{Range, part};
+use printing::Buffers;
 use std::io;
 use stdio::cases::{piece_at, replay};
 
@@ -29,57 +30,38 @@ fn agrees(input: &[u8], output: &[u8]) -> bool {
 
 // Where what plate prints ends, where the output begins with it.
 fn end_of(input: &[u8], output: &[u8]) -> Option<usize> {
-    let mut rules = [4294967295u32; 4096];
-    let mut selectors = [4294967295u32; 4096];
-    let mut tests = [4294967295u32; 4096];
-    let mut properties = [4294967295u32; 4096];
-    let mut numbers = [1.5f64; 512];
-    let mut colors = [4294967295u32; 4096];
-    let mut maps = [4294967295u32; 4323];
+    let mut buffers = Buffers {
+        rules: [4294967295; 4096],
+        selectors: [4294967295; 4096],
+        tests: [4294967295; 4096],
+        properties: [4294967295; 4096],
+        numbers: [1.5; 512],
+        colors: [4294967295; 4096],
+        maps: [4294967295; 4323],
+    };
     let mut line = [0u8; 60064];
-    match printing::plate(
-        input,
-        &mut rules,
-        &mut selectors,
-        &mut tests,
-        &mut properties,
-        &mut numbers,
-        &mut colors,
-        &mut maps,
-    ) {
+    match printing::plate(input, &mut buffers) {
         Err(e) => {
             let n = line::refusal_line(e, &mut line);
             behind(output, 0, part(&line, Range { from: 0, to: n }))
         }
-        Ok((b, layers)) => {
-            layers_behind(
-                part(input, b),
-                &selectors,
-                &properties,
-                &maps,
-                layers,
-                output,
-                &mut line,
-            )
-        }
+        Ok((b, layers)) => layers_behind(part(input, b), &buffers, layers, output, &mut line),
     }
 }
 
 // The place behind the layers' lines, where the output begins with them. A line is written into what is lent.
 fn layers_behind(
     bundle: &[u8],
-    selectors: &[u32; 4096],
-    properties: &[u32; 4096],
-    maps: &[u32; 4323],
+    buffers: &Buffers,
     layers: usize,
     output: &[u8],
     line: &mut [u8],
 ) -> Option<usize> {
     let mut at: usize = 0;
     for i in 0..layers {
-        let n = line::layer_line(bundle, &selectors[..], &maps[..], i, line);
+        let n = line::layer_line(bundle, &buffers.selectors[..], &buffers.maps[..], i, line);
         at = behind(output, at, part(line, Range { from: 0, to: n }))?;
-        at = properties_behind(bundle, &properties[..], &maps[..], i, output, at, line)?;
+        at = properties_behind(bundle, buffers, i, output, at, line)?;
     }
     Some(at)
 }
@@ -87,13 +69,14 @@ fn layers_behind(
 // The place behind the lines of a layer's properties, where the output has them at a place.
 fn properties_behind(
     bundle: &[u8],
-    properties: &[u32],
-    maps: &[u32],
+    buffers: &Buffers,
     i: usize,
     output: &[u8],
     from: usize,
     line: &mut [u8],
 ) -> Option<usize> {
+    let properties = &buffers.properties[..];
+    let maps = &buffers.maps[..];
     let mut at = from;
     let count = line::property_count(maps, i) as usize;
     for j in 0..count {

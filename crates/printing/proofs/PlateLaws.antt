@@ -17,11 +17,16 @@ use Rattle.parser.specs.declared.Counts.{Counts}
 use Rattle.valid.specs.declared.Counts.{Counts as Counts'}
 use Rattle.walk.specs.Maps.{no_rows, maps_of}
 use Rattle.printing.specs.Frame.{frame_of, range}
-use Rattle.printing.specs.Plate.{Plate, plate, room, five_of, mapped, loaded_plate, plate_of}
+use Rattle.printing.specs.declared.Buffers.{Buffers}
+use Rattle.printing.specs.Plate.{Plate, plate, empty, room, five_of, mapped, loaded_plate, plate_of}
 use Rattle.std.specs.Prelude.{Option, Some, None, Result, Ok, Err}
 use Rattle.base.specs.Option.{option_none, option_some}
 
 -- ---- tables of zeros
+
+abbrev pub buffers : Held → List ℕ → Buffers
+buffers h t =
+    record { rules = h.rules; selectors = h.selectors; tests = h.tests; properties = h.properties; numbers = h.numbers; colors = h.colors; maps = t }
 
 pub zeroed : {A : Type 0} (z : A) (n k : ℕ) (u : List A) → u ≡ replicate n z → n ≡ k → u ≡ replicate k z
 zeroed z n k u e p = e ∙ ap (λ (k : ℕ). replicate k z) p
@@ -36,6 +41,9 @@ pub room_is :
     → f ≡ 4096
     → lengths a b c d e f ≡ room
 room_is a b c d e f p q r s t u = rw (p, q, r, s, t, u)
+
+pub emptied : (h : Held) (t : List ℕ) → h ≡ zeros room → t ≡ no_rows → buffers h t ≡ empty
+emptied h t p q = ap₂ buffers p q
 
 -- ---- behind the frame
 

@@ -1,18 +1,20 @@
 -- What plate prints, as a function of its input: bad framing is refusal 1, then the load into tables of 512 entries, then the maps.
-use Rattle.std.specs.Prelude.{ℕ, List, [], ◌∷◌, Result, Ok, Err}
+use Rattle.std.specs.Prelude.{ℕ, List, [], ◌∷◌, replicate, Result, Ok, Err}
 use Rattle.base.specs.Bytes.{Bytes, within}
 use Rattle.base.specs.Refusal.{refusal}
+use Rattle.base.specs.Table.{zero_float}
 use Rattle.base.specs.declared.Range.{Range}
 use Rattle.base.specs.declared.refusal.Refusal.{Refusal}
 use Rattle.cascade.specs.Clause.{layer_name}
 use Rattle.decode.specs.Decode.{selector_in, name_at}
 use Rattle.keep.specs.Encode.{Lengths, lengths}
-use Rattle.parser.specs.Load.{Held, zeros, load_of}
+use Rattle.parser.specs.Load.{Held, held, zeros, load_of}
 use Rattle.parser.specs.declared.Counts.{Counts}
 use Rattle.valid.specs.declared.Counts.{Counts as Counts'}
 use Rattle.walk.specs.Maps.{no_rows, maps_of}
 use Rattle.maps.specs.Held.{layers_held}
 use Rattle.printing.specs.Frame.{frame_of}
+use Rattle.printing.specs.declared.Buffers.{Buffers}
 use Rattle.line.specs.Lines.{refusal_line, lines_of}
 use Rattle.base.specs.Option.{on_option3}
 
@@ -32,6 +34,19 @@ pub record Plate : Type 0 where
 
 abbrev pub plate : Result (Range × ℕ) Refusal → Held → List ℕ → Plate
 plate a h t = record { answer = a; tables = h; maps = t }
+
+-- what buffers hold
+abbrev pub held_in : Buffers → Held
+held_in t = held t.rules t.selectors t.tests t.properties t.numbers t.colors
+
+abbrev pub plate_in : Result (Range × ℕ) Refusal → Buffers → Plate
+plate_in a t = plate a (held_in t) t.maps
+
+-- buffers of zeros
+abbrev pub empty : Buffers
+empty =
+    record
+    { rules = replicate 4096 0; selectors = replicate 4096 0; tests = replicate 4096 0; properties = replicate 4096 0; numbers = replicate 512 zero_float; colors = replicate 4096 0; maps = no_rows }
 
 abbrev pub refused : Refusal → Held → Plate
 refused e h = plate (Err e) h no_rows

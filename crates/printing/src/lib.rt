@@ -2,47 +2,70 @@
 #![tactic(auto)]
 
 ghost use Rattle.std.specs.Prelude.{◌≡◌};
-ghost use Rattle.parser.specs.Load.{held, load_of};
+ghost use Rattle.parser.specs.Load.{load_of};
 ghost use Rattle.printing.specs.Frame.{frame_of};
-ghost use Rattle.printing.specs.Plate.{plate, room, five_of, loaded_plate, plate_of};
+ghost use Rattle.printing.specs.Plate.{plate_in, empty, room, loaded_plate, plate_of};
 
+use base::Range;
 use base::refusal::{BUNDLE_LAYOUT, Refusal};
-use base::{Range, zero_words};
+use keep::Store;
 use table::Tables;
 use valid::Counts;
 
-// Reads the input's entity in the input's sheet: the answer, and what is left in the lent tables, are those of specs/Plate.antt.
-pub fn plate(
-    input: &[u8],
-    rules: &mut [u32; 4096],
-    selectors: &mut [u32; 4096],
-    tests: &mut [u32; 4096],
-    properties: &mut [u32; 4096],
-    numbers: &mut [f64; 512],
-    colors: &mut [u32; 4096],
-    maps: &mut [u32; 4323],
-) -> Result<(Range, usize), Refusal>
-    ensures { plate result (held rules.new selectors.new tests.new properties.new numbers.new colors.new) maps.new ≡ plate_of input.now }
+// The tables that plate reads with: 512 entries each, and 33 rows of maps.
+#[derive(Drop)]
+pub struct Buffers {
+    pub rules: [u32; 4096],
+    pub selectors: [u32; 4096],
+    pub tests: [u32; 4096],
+    pub properties: [u32; 4096],
+    pub numbers: [f64; 512],
+    pub colors: [u32; 4096],
+    pub maps: [u32; 4323],
+}
+
+impl Buffers {
+    pub fn new() -> Buffers
+        ensures { result ≡ empty }
+    {
+        Buffers {
+            rules: [0; 4096],
+            selectors: [0; 4096],
+            tests: [0; 4096],
+            properties: [0; 4096],
+            numbers: [0.0; 512],
+            colors: [0; 4096],
+            maps: [0; 4323],
+        }
+    }
+
+    fn blank(&mut self)
+        ensures { self.new ≡ empty }
+    {
+        parser::blank(&mut Store {
+            rules: &mut self.rules,
+            selectors: &mut self.selectors,
+            tests: &mut self.tests,
+            properties: &mut self.properties,
+            numbers: &mut self.numbers,
+            colors: &mut self.colors,
+        });
+        self.maps.fill(0);
+    }
+}
+
+// Reads the input's entity in the input's sheet: the answer, and what is left in the buffers, are those of specs/Plate.antt.
+pub fn plate(input: &[u8], buffers: &mut Buffers) -> Result<(Range, usize), Refusal>
+    ensures { plate_in result buffers.new ≡ plate_of input.now }
 {
     match parts(input) {
         None => {
-            parser::blank(rules, selectors, tests, properties, numbers, colors);
-            zero_words(&mut maps[..]);
+            buffers.blank();
             Err(Refusal::plain(BUNDLE_LAYOUT))
         }
-        Some((zoom, b, e)) => styled(
-            base::part(input, b),
-            base::part(input, e),
-            zoom,
-            b,
-            rules,
-            selectors,
-            tests,
-            properties,
-            numbers,
-            colors,
-            maps,
-        ),
+        Some((zoom, b, e)) => {
+            styled(base::part(input, b), base::part(input, e), zoom, b, buffers)
+        }
     }
 }
 
@@ -75,45 +98,35 @@ fn styled(
     entity: &[u8],
     zoom: u8,
     b: Range,
-    rules: &mut [u32; 4096],
-    selectors: &mut [u32; 4096],
-    tests: &mut [u32; 4096],
-    properties: &mut [u32; 4096],
-    numbers: &mut [f64; 512],
-    colors: &mut [u32; 4096],
-    maps: &mut [u32; 4323],
+    buffers: &mut Buffers,
 ) -> Result<(Range, usize), Refusal>
-    ensures { plate result (held rules.new selectors.new tests.new properties.new numbers.new colors.new) maps.new ≡ loaded_plate zoom b bundle.now entity.now (load_of bundle.now room) }
+    ensures { plate_in result buffers.new ≡ loaded_plate zoom b bundle.now entity.now (load_of bundle.now room) }
 {
-    match parser::load(bundle, rules, selectors, tests, properties, numbers, colors) {
+    let loaded = parser::load(
+        bundle,
+        &mut buffers.rules,
+        &mut buffers.selectors,
+        &mut buffers.tests,
+        &mut buffers.properties,
+        &mut buffers.numbers,
+        &mut buffers.colors,
+    );
+    match loaded {
         Err(e) => {
-            zero_words(&mut maps[..]);
+            buffers.maps.fill(0);
             Err(e)
         }
         Ok(n) => {
             let tables = Tables {
                 bundle,
-                rules: &rules[..],
-                selectors: &selectors[..],
-                tests: &tests[..],
-                properties: &properties[..],
-                numbers: &numbers[..],
+                rules: &buffers.rules[..],
+                selectors: &buffers.selectors[..],
+                tests: &buffers.tests[..],
+                properties: &buffers.properties[..],
+                numbers: &buffers.numbers[..],
             };
-            let k = walk::property_maps(&tables, five_of(n), zoom, entity, maps)?;
+            let k = walk::property_maps(&tables, Counts::from(n), zoom, entity, &mut buffers.maps)?;
             Ok((b, k))
         }
-    }
-}
-
-// The counts that styling reads.
-fn five_of(n: parser::Counts) -> Counts
-    ensures { result ≡ five_of n }
-{
-    Counts {
-        rules: n.rules,
-        selectors: n.selectors,
-        tests: n.tests,
-        properties: n.properties,
-        numbers: n.numbers,
     }
 }

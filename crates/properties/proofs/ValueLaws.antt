@@ -9,6 +9,7 @@ use Rattle.base.specs.Bytes.{Bytes, same, within}
 use Rattle.base.specs.Choice.{pick, different}
 use Rattle.base.specs.declared.Range.{Range}
 use Rattle.base.specs.declared.refusal.Refusal.{Refusal}
+use Rattle.color.specs.declared.Color.{Color}
 use Rattle.cursor.specs.declared.Cursor.{Cursor}
 use Rattle.table.specs.Value.{range_at, color_at}
 use Rattle.table.specs.declared.PropertyValue.{PropertyValue}
@@ -22,10 +23,10 @@ use Rattle.input.specs.declared.Source.{Source}
 use Rattle.keep.specs.declared.Tally.{Tally}
 use Rattle.keep.proofs.Laws.{option_none, option_some}
 use Rattle.keep.specs.Answers.{Reads, refuses, done}
-use Rattle.properties.specs.Answers.{Values, bad_value, good_value, Leads, stops, leads, Nexts, no_next, at_end, a_next}
+use Rattle.properties.specs.Answers.{color_in, Values, bad_value, good_value, Leads, stops, leads, Nexts, no_next, at_end, a_next}
 use Rattle.std.specs.Prelude.{Option, Some, None, Result, Ok, Err}
-use Rattle.base.specs.Option.{on_option as on_option', with_option}
-use Rattle.base.proofs.Options.{none_some, ok2_first, ok2_second, ok3_first, ok3_second, ok3_third}
+use Rattle.base.specs.Option.{on_option as on_option', option_none as option_none', option_some as option_some', with_option}
+use Rattle.base.proofs.Options.{by_option, none_some, ok2_first, ok2_second, ok3_first, ok3_second, ok3_third}
 
 -- ---- what a call has read leads on
 
@@ -174,11 +175,30 @@ module _ (bundle : Bytes) (t : List ℕ) (name : Range) where
       go false f e = f e
 
   module _ {A : Type 0} (Q : Answer A Spot Lent Refusal → Type 0) (n : ℕ) where
-    pub no_reference : (f : Answer A Spot Lent Refusal) (k : _ → Answer A Spot Lent Refusal) → place_from bundle (within name bundle) t 0 n ≡ None → Q f → Q (on_option (color_named (name_in bundle name) (colors_from bundle t 0 n)) f k)
-    no_reference f k e q = option_none Q _ f k (no_color_from 0 n e) q
+    pub no_reference :
+        (f : Answer A Spot Lent Refusal) (k : _ → Answer A Spot Lent Refusal)
+        → color_in bundle (within name bundle) t n ≡ None
+        → Q f
+        → Q (on_option (color_named (name_in bundle name) (colors_from bundle t 0 n)) f k)
+    unfolding color_in
+    no_reference f k e q =
+        by_option (place_from bundle (within name bundle) t 0 n)
+        (λ h. option_none Q _ f k (no_color_from 0 n h) q)
+        (λ i h. none_some (sym e ∙ sym (option_some' _ _ _ h refl)))
 
-    pub reference : (f : Answer A Spot Lent Refusal) (k : _ → Answer A Spot Lent Refusal) {i : ℕ} → place_from bundle (within name bundle) t 0 n ≡ Some i → Q (k (color_at t i)) → Q (on_option (color_named (name_in bundle name) (colors_from bundle t 0 n)) f k)
-    reference f k e q = option_some Q _ f k (color_from 0 n e) q
+    pub reference :
+        (f : Answer A Spot Lent Refusal) (k : _ → Answer A Spot Lent Refusal) {x : Color}
+        → color_in bundle (within name bundle) t n ≡ Some x
+        → Q (k x)
+        → Q (on_option (color_named (name_in bundle name) (colors_from bundle t 0 n)) f k)
+    unfolding color_in
+    reference f k {x} e q =
+        by_option (place_from bundle (within name bundle) t 0 n)
+        (λ h. none_some (option_none' _ _ _ h refl ∙ e))
+        (λ i h.
+        let p = option_some' _ _ _ h refl ∙ e in
+        let z : color_at t i ≡ x = cc in
+        option_some Q _ f k (color_from 0 n h ∙ ap some z) q)
 
 -- ---- the next of several, or their end
 

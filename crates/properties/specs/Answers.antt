@@ -1,16 +1,19 @@
 -- What the readers of properties promise: their answers are those of the grammar's reader over the bundle and the lent tables.
 use Rattle.std.specs.Prelude.{ℕ, ◌<◌, ◌≤◌, ◌≡◌, List, Float, Option, Some, None, Result, Ok, Err}
 use Rattle.base.specs.Bytes.{Bytes}
+use Rattle.base.specs.Option.{on_option}
 use Rattle.base.specs.declared.Range.{Range}
 use Rattle.base.specs.declared.refusal.Refusal.{Refusal}
+use Rattle.color.specs.declared.Color.{Color}
 use Rattle.cursor.specs.declared.Cursor.{Cursor}
+use Rattle.table.specs.Value.{color_at}
 use Rattle.table.specs.declared.PropertyValue.{PropertyValue}
 use Rattle.grammar.specs.Token.{Name as Name', right_brace, semi_colon, comma}
 use Rattle.grammar.specs.View.{on_sign, on_identifier, on_number}
 use Rattle.grammar.specs.Reading.{Value, Property, property, Colors}
 use Rattle.grammar.specs.Input.{Answer, refused, read, property_entry, keep}
 use Rattle.grammar.specs.Reader.{end_value, read_property, read_mandatory_token, unexpected_token, read_number_list, read_properties}
-use Rattle.keep.specs.Lent.{Lent, lent, value_shown, fresh_numbers}
+use Rattle.keep.specs.Lent.{Lent, lent, value_shown, fresh_numbers, place_from}
 use Rattle.keep.specs.Source.{reading}
 use Rattle.input.specs.Source.{Spot, spot}
 use Rattle.input.specs.Text.{left, name_in}
@@ -42,6 +45,10 @@ NumbersRead bundle s x c n xs xs' r =
     (τ : Lent) (k : ℕ)
     → left bundle s c < k
     → Reads bundle s (left bundle s c) (at_numbers τ xs') r (read_number_list (reading bundle) k x (spot s c) (at_numbers τ xs n))
+
+-- the colour of a name among the first n of a table
+unfoldable pub color_in : Bytes → Bytes → List ℕ → ℕ → Option Color
+color_in bundle name t n = on_option (place_from bundle name t 0 n) None λ i. Some (color_at t i)
 
 -- the value v, shown with the numbers that no entry has
 pub data Values (bundle : Bytes) (s : Source) (bound : ℕ) (tables : Tally → Lent) : Result (PropertyValue × Cursor × Tally) Refusal → Answer Value Spot Lent Refusal → Type 0 where

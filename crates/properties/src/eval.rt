@@ -8,8 +8,8 @@ use crate::Form;
 use base::refusal::{EVAL_FORM, NUMBERS, PARSE, Refusal, TABLE_FULL};
 use base::{Range, same_bytes};
 use cursor::Cursor;
-use input::tokens::{read_mandatory_token, refuse, refuse_reached};
-use input::{Place, Source};
+use input::tokens::{refuse, refuse_reached};
+use input::{Place, Source, Text};
 use keep::{Tally, keep_number};
 use table::PropertyValue;
 use token_kind::Token;
@@ -48,19 +48,19 @@ fn form_next(bundle: &[u8], f: Form, t: Token) -> Form
 }
 
 // The form of all tokens up to the semicolon.
-pub fn read_form(bundle: &[u8], source: Source, c: Cursor) -> Result<(Form, Cursor), Refusal>
-    ensures { FormAnswer bundle.now source c result }
+pub fn read_form(text: Text, c: Cursor) -> Result<(Form, Cursor), Refusal>
+    ensures { FormAnswer text.entry.bundle.now text.entry.source c result }
 {
     let mut f = Form::Empty;
     let mut at = c;
     loop {
-        let (t, _, d) = read_mandatory_token(bundle, source, at)?;
+        let (t, _, d) = text.read_mandatory_token(at)?;
         match t {
             Token::SemiColon => {
                 return Ok((f, d));
             }
             _ => {
-                f = form_next(bundle, f, t);
+                f = form_next(text.bundle, f, t);
                 at = d;
             }
         }
@@ -83,18 +83,17 @@ fn store_delta(
 
 // Behind the word eval, which begins at o.
 pub fn read_simple_eval(
-    bundle: &[u8],
-    source: Source,
+    text: Text,
     o: Place,
     c: Cursor,
     n: Tally,
     numbers: &mut [f64],
 ) -> Result<(PropertyValue, Cursor, Tally), Refusal>
-    ensures { EvalRead bundle.now source o c n numbers.old numbers.new result }
+    ensures { EvalRead text.entry.bundle.now text.entry.source o c n numbers.old numbers.new result }
 {
-    let (f, d) = read_form(bundle, source, c)?;
+    let (f, d) = read_form(text, c)?;
     match f {
-        Form::Whole(x) => store_delta(source, x, d, n, numbers),
+        Form::Whole(x) => store_delta(text.source, x, d, n, numbers),
         _ => Err(refuse(PARSE, EVAL_FORM, o)),
     }
 }

@@ -167,29 +167,25 @@ fn ask(bundle: &[u8], entity: &[u8]) -> Given {
 // The counts that styling reads; a refusal leaves no entries.
 fn counts_of(l: Result<parser::Counts, Refusal>) -> Counts {
     match l {
-        Err(_) => five(0, 0, 0, 0, 0),
-        Ok(n) => five(n.rules, n.selectors, n.tests, n.properties, n.numbers),
-    }
-}
-
-fn five(rules: usize, selectors: usize, tests: usize, properties: usize, numbers: usize) -> Counts {
-    Counts {
-        rules,
-        selectors,
-        tests,
-        properties,
-        numbers,
+        Err(_) => Counts {
+            rules: 0,
+            selectors: 0,
+            tests: 0,
+            properties: 0,
+            numbers: 0,
+        },
+        Ok(n) => Counts::from(n),
     }
 }
 
 // The properties of the layer of this name: each name, then its value. A row that is not in use has none.
 fn properties_of(b: &[u8], s: &Table, p: &Table, x: &[f64; 512], m: &Maps, name: &[u8]) -> Words {
-    let i = walk::layer_place(b, &s[..], &m[..], 32, name);
-    let row = styles::parts::row_of(m, i);
     let mut out = Words::none();
-    for k in row {
-        out.push_name(walk::names::name_of(b, &p[..], *k));
-        out.push_value(p, x, *k as usize);
+    if let Some(i) = walk::layer_place(b, &s[..], &m[..], 32, name) {
+        for k in walk::maps::row_of(m, i) {
+            out.push_name(walk::names::name_of(b, &p[..], *k));
+            out.push_value(p, x, *k as usize);
+        }
     }
     out
 }
@@ -202,15 +198,17 @@ fn color_word(c: Option<Color>) -> u64 {
 }
 
 // The style of the layer of this name.
-fn style_of(bundle: &[u8], s: &Table, all: &styles::EntityStyles, name: &[u8]) -> Words {
+fn style_of(
+    bundle: &[u8],
+    s: &Table,
+    all: &Result<styles::EntityStyles, Refusal>,
+    name: &[u8],
+) -> Words {
     let mut out = Words::none();
-    let layers = all.layers;
-    let answer = all.answer;
-    let Ok(n) = answer else {
+    let Ok(all) = all else {
         return out;
     };
-    for i in 0..n.min(32) {
-        let l = layers[i];
+    for l in all.styled() {
         if walk::names::is_layer(bundle, &s[..], l.selector, name) {
             out = style_words(l.style);
         }
@@ -220,19 +218,18 @@ fn style_of(bundle: &[u8], s: &Table, all: &styles::EntityStyles, name: &[u8]) -
 
 // All flags, numbers and colours.
 fn style_words(s: style::Style) -> Words {
-    let t = s.text_style;
     let mut out = Words::none();
     out.push_layer(s.layer);
     out.push(color_word(s.color));
     out.push(color_word(s.fill_color));
     out.push(color_word(s.background_color));
     out.push(color_word(s.casing_color));
-    out.push(color_word(t.text_color));
+    out.push(color_word(s.text_style.and_then(|t| t.text_color)));
     out.push_number(u64::from(s.is_foreground_fill), s.z_index);
     out.push_measure(s.opacity);
     out.push_measure(s.fill_opacity);
     out.push_measure(s.width);
     out.push_measure(s.casing_width);
-    out.push_measure(t.font_size);
+    out.push_measure(s.text_style.and_then(|t| t.font_size));
     out
 }

@@ -1,5 +1,5 @@
 -- Tag lookup: one step of the scan, a key of two parts, and that it finds what the map of tags has.
-use Prim.Native.Nat.{ℕ, zero, suc, ◌+◌, ◌-◌, ◌<◌, ◌≤◌}
+use Prim.Native.Nat.{ℕ, suc, ◌+◌, ◌<◌, ◌≤◌}
 use native.Mathlib.Omega.{arith}
 use native.Mathlib.Nat.{sub-zero}
 use native.Mathlib.Numerals.{add-one}
@@ -14,39 +14,26 @@ use borrow.Author.Tests.{eq-eqb, ne_eqb}
 use Rattle.base.specs.Bytes.{Bytes, same, within, between}
 use Rattle.base.specs.Choice.{pick, by-test}
 use Rattle.base.specs.Map.{lookup}
-use Rattle.base.specs.declared.Range.{Range}
 use Rattle.base.proofs.Compare.{same_lengths, rest_all}
-use Rattle.group.specs.Pair.{Ranges, ranges, pair_at, pairs_at, entries_at, named}
+use Rattle.group.specs.Pair.{Ranges, pairs_at, entries_at, named}
 use Rattle.entity.specs.Layout.{value_of, tags_of}
 use Rattle.entity.specs.declared.EntityRange.{EntityRange}
 use Rattle.cascade.specs.Match.{tag}
 use Rattle.reader.specs.Tags.{value_in}
-use Rattle.std.specs.Prelude.{Some, None}
-use Rattle.base.specs.Option.{on_option, on_option2}
+use Rattle.std.specs.Prelude.{Option}
+use Rattle.std.specs.List.{find}
+use Rattle.std.specs.Option.{option_map}
+use Rattle.std.proofs.lemmas.Iterator.Adapters.{option_map_id}
+use Rattle.base.specs.Option.{on_option}
 
-run_step : (n : ℕ) (s : Bytes) (at : ℕ) → 0 < n → pairs_at n s at ≡ on_option2 (pair_at s at) [] (λ a b. ranges a b ∷ pairs_at (n - 1) s b.to)
-unfolding pairs_at
-run_step zero s at h = absurd (omega arith)
-run_step (suc n) s at h = let p : n ≡ suc n - 1 = omega arith in rw (sym p)
+-- the value of a key is that of the first tag that has the key
+pub value_found : (s key : Bytes) (ps : List Ranges) → option_map (λ p. p.1) (find (λ p. same key (within p.0 s)) ps) ≡ value_in s key ps
+unfolding value_in pick
+value_found s key [] = refl
+value_found s key (p ∷ ps) = by-test (same key (within p.0 s)) (λ e. rw e) (λ e. rw e (value_found s key ps))
 
-module _ (s key : Bytes) (n at : ℕ) where
-  pub value_end : n ≤ 0 → None ≡ value_in s key (pairs_at n s at)
-  unfolding value_in pairs_at
-  value_end h = let p : n ≡ 0 = omega arith in rw p
-
-  module _ (h : 0 < n) where
-    pub value_broken : pair_at s at ≡ None → None ≡ value_in s key (pairs_at n s at)
-    unfolding value_in on_option
-    value_broken e = rw (run_step n s at h, e)
-
-    module _ (a b : Range) (e : pair_at s at ≡ Some (a, b)) (y : Bytes) (r : Bool) (p : y ≡ within a s) (q : r ≡ same key y) where
-      pub value_here : r ≡ true → Some b ≡ value_in s key (pairs_at n s at)
-      unfolding value_in on_option pick
-      value_here t = let g : same key (within a s) ≡ true = ap (same key) (sym p) ∙ sym q ∙ t in rw (run_step n s at h, e, g)
-
-      pub value_next : r ≡ false → value_in s key (pairs_at (n - 1) s b.to) ≡ value_in s key (pairs_at n s at)
-      unfolding value_in on_option pick
-      value_next t = let g : same key (within a s) ≡ false = ap (same key) (sym p) ∙ sym q ∙ t in rw (run_step n s at h, e, g)
+pub value_read : (s key : Bytes) (ps : List Ranges) (r : Option Ranges) → option_map (λ p. p) r ≡ find (λ p. same key (within p.0 s)) ps → option_map (λ p. p.1) r ≡ value_in s key ps
+value_read s key ps r e = ap (option_map (λ p. p.1)) (sym (option_map_id r) ∙ e) ∙ value_found s key ps
 
 -- a key of two parts
 same_parts : (a b y : Bytes) → same (a ++ b) y ≡ (same a (take (length a) y) && same b (drop (length a) y))
@@ -91,7 +78,7 @@ module _ (s key : Bytes) where
   lookup_in : (ps : List Ranges) → lookup key (map (named s) ps) ≡ on_option (value_in s key ps) none (λ r. some (within r s))
   unfolding lookup value_in on_option pick
   lookup_in [] = refl
-  lookup_in (p ∷ ps) = by-test (same key (within p.first s)) (λ e. rw e) (λ e. rw e (lookup_in ps))
+  lookup_in (p ∷ ps) = by-test (same key (within p.0 s)) (λ e. rw e) (λ e. rw e (lookup_in ps))
 
   pub value_lookup :
       (n at : ℕ)

@@ -8,4 +8,4 @@ use Rattle.group.specs.Pair.{Ranges}
 -- the value of the first tag with a key
 unfoldable pub value_in : Bytes → Bytes → List Ranges → Option Range
 value_in s key [] = None
-value_in s key (p ∷ ps) = pick (same key (within p.first s)) (Some p.second) (value_in s key ps)
+value_in s key (p ∷ ps) = pick (same key (within p.0 s)) (Some p.1) (value_in s key ps)

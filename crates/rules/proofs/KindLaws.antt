@@ -3,30 +3,24 @@ use Prim.Native.Nat.{ℕ, zero, suc, ◌≤◌}
 use native.Mathlib.Omega.{arith}
 use mathlib.Core.Path.{◌≡◌, refl}
 use mathlib.Core.Bool.{true, false}
-use mathlib.Core.Option.{Option as Option'}
 use Rattle.base.specs.Bytes.{Bytes}
 use Rattle.base.specs.declared.refusal.Refusal.{Refusal}
 use Rattle.cursor.specs.declared.Cursor.{Cursor}
 use Rattle.token_kind.specs.declared.Token.{Token}
 use Rattle.grammar.specs.Token.{right_brace}
 use Rattle.grammar.specs.View.{is_sign}
-use Rattle.grammar.specs.Input.{on_option}
 use Rattle.grammar.specs.Reader.{skip_colors}
 use Rattle.sheet.specs.Sheet.{ObjectType, all, canvas, meta, node, way, area}
 use Rattle.keep.specs.Lent.{type_number}
 use Rattle.input.specs.Text.{token_of, left, mandatory_of}
 use Rattle.input.specs.declared.Place.{Place}
 use Rattle.input.specs.declared.Source.{Source}
-use Rattle.rules.specs.declared.kind.ObjectKind.{ObjectKind}
-use Rattle.rules.specs.Kind.{kind_of, kind_number, Skips, unskipped, skipped, SkipsFrom}
+use Rattle.table.specs.Kind.{object_number}
+use Rattle.rules.specs.Kind.{kind_of, Skips, unskipped, skipped, SkipsFrom}
 use Rattle.keep.proofs.Laws.{no_token, got, yes_way, no_way}
-use Rattle.std.specs.Prelude.{Option, Some, None, Result, Ok, Err}
+use Rattle.std.specs.Prelude.{Result, Ok, Err}
 
--- the object type that the code finds is the grammar's
-abbrev pub Found : Option ObjectKind → Option' ObjectType → Type 0
-Found k o = k ≡ on_option o None (λ y. Some (kind_of y))
-
-pub same_number : (y : ObjectType) → type_number y ≡ kind_number (kind_of y)
+pub same_number : (y : ObjectType) → type_number y ≡ object_number (kind_of y)
 same_number all = refl
 same_number canvas = refl
 same_number meta = refl

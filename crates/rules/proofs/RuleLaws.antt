@@ -29,19 +29,18 @@ use Rattle.input.specs.Text.{left, name_in, level_of, token_of, refusal_at, reac
 use Rattle.input.specs.declared.Place.{Place}
 use Rattle.input.specs.declared.Source.{Source}
 use Rattle.keep.specs.declared.Tally.{Tally}
-use Rattle.rules.specs.declared.kind.ObjectKind.{ObjectKind}
+use Rattle.table.specs.declared.kind.ObjectKind.{ObjectKind}
 use Rattle.rules.proofs.KindLaws.{same_number}
-use Rattle.rules.specs.Kind.{object_kind, kind_of, kind_number, Skips, unskipped, skipped}
-use Rattle.rules.specs.Rules.{Ways, Parts, bad_part, is_closing, is_zoom, is_bracket, is_class, is_layer, Shown, Selects, no_selector, one_selector, Chooses, unchosen, last_chosen, next_chosen, Starts, bad_start, body, colors_block, object, start_of}
-use Rattle.rules.specs.declared.Choice.{Choice}
-use Rattle.rules.specs.declared.Choice.TheVariants.{LastChosen, NextChosen}
+use Rattle.table.specs.Kind.{object_number}
+use Rattle.rules.specs.Kind.{object_kind, kind_of, Skips, unskipped, skipped}
+use Rattle.rules.specs.Rules.{Ways, Parts, bad_part, is_closing, is_zoom, is_bracket, is_class, is_layer, Shown, Selects, no_selector, one_selector, Choice, Chooses, unchosen, last_chosen, next_chosen, Starts, bad_start, body, colors_block, object, start_of}
 use Rattle.rules.specs.declared.Part.{Part}
 use Rattle.rules.specs.declared.Part.TheVariants.{Closing, Zoom, Bracket, Class, Layer}
 use Rattle.rules.specs.declared.Start.{Start}
 use Rattle.rules.specs.declared.Start.TheVariants.{Body, ColorsBlock, Object}
 use Rattle.std.specs.Prelude.{Option, Some, None, Result, Ok, Err}
 use Rattle.base.specs.Option.{on_option as on_option', with_option}
-use Rattle.base.proofs.Options.{ok2_first, ok2_second, ok3_first, ok3_second, ok3_third}
+use Rattle.base.proofs.Options.{ok2_first, ok2_second, ok3_first, ok3_second, ok3_third, some2_first, some2_second}
 
 -- ---- parts
 
@@ -232,30 +231,34 @@ module _ (Q : Answer Rule Spot Lent Refusal → Type 0) {bundle : Bytes} {s : So
   pub choice_last :
       {r : Result Choice Refusal} {a : Answer Rule Spot Lent Refusal} {d : Cursor} {n : Tally}
       → Chooses bundle s b tables L N r a
-      → r ≡ Ok (LastChosen d n)
+      → r ≡ Ok (None, d, n)
       → ((σ : Selector) → left bundle s d ≤ b → Q (L σ (spot s d) (tables n)))
       → Q a
   choice_last (unchosen p) q k = different cc
   choice_last {d = d} {n} (last_chosen σ f {n = m} l) q k =
-      let z : d ≡ f = cc in
-      let v : n ≡ m = cc in
+      let z : d ≡ f = sym (ok3_second q) in
+      let v : n ≡ m = sym (ok3_third q) in
       subst (λ m. Q (L σ (spot s f) (tables m))) v
       (subst (λ f. Q (L σ (spot s f) (tables n))) z (k σ (subst (λ f. left bundle s f ≤ b) (sym z) l)))
-  choice_last (next_chosen σ t o d l) q k = different cc
+  choice_last (next_chosen σ u p f l) q k =
+      let none = ok3_first q in
+      different cc
 
   pub choice_next :
       {r : Result Choice Refusal} {a : Answer Rule Spot Lent Refusal} {t : Token} {o : Place} {d : Cursor} {n : Tally}
       → Chooses bundle s b tables L N r a
-      → r ≡ Ok (NextChosen t o d n)
+      → r ≡ Ok (Some (t, o), d, n)
       → ((σ : Selector) → left bundle s d < b → Q (N σ (token_of bundle t) o (spot s d) (tables n)))
       → Q a
   choice_next (unchosen p) q k = different cc
-  choice_next (last_chosen σ f l) q k = different cc
+  choice_next (last_chosen σ f l) q k =
+      let none = ok3_first q in
+      different cc
   choice_next {t = t} {o} {d} {n} (next_chosen σ u p f {n = m} l) q k =
-      let z : d ≡ f = cc in
-      let v : n ≡ m = cc in
-      let x : t ≡ u = cc in
-      let y : o ≡ p = cc in
+      let z : d ≡ f = sym (ok3_second q) in
+      let v : n ≡ m = sym (ok3_third q) in
+      let x : t ≡ u = sym (some2_first (ok3_first q)) in
+      let y : o ≡ p = sym (some2_second (ok3_first q)) in
       subst (λ m. Q (N σ (token_of bundle u) p (spot s f) (tables m))) v
       (subst (λ u. Q (N σ (token_of bundle u) p (spot s f) (tables n))) x
       (subst (λ p. Q (N σ (token_of bundle t) p (spot s f) (tables n))) y
@@ -291,12 +294,12 @@ module _ (Q : Answer Rule Spot Lent Refusal → Type 0) {B C : Answer Rule Spot 
       {r : Result Start Refusal} {a : Answer Rule Spot Lent Refusal} {kind : ObjectKind}
       → Starts B C O K r a
       → r ≡ Ok (Object kind)
-      → ((y : ObjectType) → type_number y ≡ kind_number kind → Q (after (O y) K))
+      → ((y : ObjectType) → type_number y ≡ object_number kind → Q (after (O y) K))
       → Q a
   start_object (bad_start p) q k = different cc
   start_object body q k = different cc
   start_object colors_block q k = different cc
-  start_object {kind = kind} (object y {kind = n} p) q k = let z : n ≡ kind = cc in k y (p ∙ ap kind_number z)
+  start_object {kind = kind} (object y {kind = n} p) q k = let z : n ≡ kind = cc in k y (p ∙ ap object_number z)
 
 pub start_as :
     (Q : Answer Rule Spot Lent Refusal → Type 0) (bundle : Bytes) (o : Place) (τ : Lent) (B C : Answer Rule Spot Lent Refusal) (O : ObjectType → Answer (Selector × Bool) Spot Lent Refusal) (K : Selector × Bool → Spot → Lent → Answer Rule Spot Lent Refusal) {t v : Token}
@@ -437,13 +440,13 @@ module _ (Q : Answer Rule Spot Lent Refusal → Type 0) (name : Bytes) (f : Answ
       go none e q = q
       go (some y) e q = different cc
 
-  pub an_object : {kind : ObjectKind} → object_kind name ≡ Some kind → ((y : ObjectType) → type_number y ≡ kind_number kind → Q (after (O y) K)) → Q (after (on_option (id_to_object_type name) f O) K)
+  pub an_object : {kind : ObjectKind} → object_kind name ≡ Some kind → ((y : ObjectType) → type_number y ≡ object_number kind → Q (after (O y) K)) → Q (after (on_option (id_to_object_type name) f O) K)
   unfolding object_kind on_option
   an_object {kind} = go (id_to_object_type name)
     where
-      go : (o : Option' ObjectType) → on_option o None (λ y. Some (kind_of y)) ≡ Some kind → ((y : ObjectType) → type_number y ≡ kind_number kind → Q (after (O y) K)) → Q (after (on_option o f O) K)
+      go : (o : Option' ObjectType) → on_option o None (λ y. Some (kind_of y)) ≡ Some kind → ((y : ObjectType) → type_number y ≡ object_number kind → Q (after (O y) K)) → Q (after (on_option o f O) K)
       go none e q = different cc
-      go (some y) e q = let z : kind_of y ≡ kind = cc in q y (same_number y ∙ ap kind_number z)
+      go (some y) e q = let z : kind_of y ≡ kind = cc in q y (same_number y ∙ ap object_number z)
 
 -- ---- what the start of a rule leads to
 

@@ -8,14 +8,14 @@ use Rattle.grammar.specs.Reading.{id_to_object_type}
 use Rattle.grammar.specs.Input.{Answer, refused, read, on_option}
 use Rattle.grammar.specs.Reader.{skip_colors}
 use Rattle.keep.specs.Lent.{Lent}
-use Rattle.rules.specs.declared.kind.ObjectKind.{ObjectKind}
-use Rattle.rules.specs.declared.kind.ObjectKind.TheVariants.{All, Canvas, Meta, Node, Way, Area}
+use Rattle.table.specs.declared.kind.ObjectKind.{ObjectKind}
+use Rattle.table.specs.declared.kind.ObjectKind.TheVariants.{All, Canvas, Meta, Node, Way, Area}
 use Rattle.keep.specs.Source.{reading}
 use Rattle.input.specs.Source.{Spot, spot}
 use Rattle.input.specs.Text.{left}
 use Rattle.input.specs.declared.Source.{Source}
 
--- the object types as the code has them, and their numbers
+-- the object types as the code has them
 abbrev pub kind_of : ObjectType → ObjectKind
 kind_of all = All
 kind_of canvas = Canvas
@@ -23,14 +23,6 @@ kind_of meta = Meta
 kind_of node = Node
 kind_of way = Way
 kind_of area = Area
-
-abbrev pub kind_number : ObjectKind → ℕ
-kind_number All = 1
-kind_number Canvas = 2
-kind_number Meta = 3
-kind_number Node = 4
-kind_number Way = 5
-kind_number Area = 6
 
 -- the object type that a name has, if any
 unfoldable pub object_kind : Bytes → Option ObjectKind

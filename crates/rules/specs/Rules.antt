@@ -1,5 +1,5 @@
 -- What the readers of selectors and rules promise.
-use Rattle.std.specs.Prelude.{ℕ, suc, ◌<◌, ◌≤◌, ◌≡◌, Bool, true, false, cond, List, Float, Option, Result, Ok, Err}
+use Rattle.std.specs.Prelude.{ℕ, suc, ◌<◌, ◌≤◌, ◌≡◌, Bool, true, false, cond, List, Float, Option, Some, None, Result, Ok, Err}
 use Rattle.std.proofs.Math.Option.{Option as Option'}
 use Rattle.base.specs.Bytes.{Bytes, within}
 use Rattle.base.specs.declared.Range.{Range}
@@ -21,13 +21,11 @@ use Rattle.input.specs.declared.Place.{Place}
 use Rattle.input.specs.declared.Source.{Source}
 use Rattle.keep.specs.declared.Tally.{Tally}
 use Rattle.keep.specs.Answers.{Reads}
-use Rattle.rules.specs.declared.Choice.{Choice}
-use Rattle.rules.specs.declared.Choice.TheVariants.{LastChosen, NextChosen}
 use Rattle.rules.specs.declared.Part.{Part}
 use Rattle.rules.specs.declared.Part.TheVariants.{Closing, Zoom, Bracket, Class, Layer}
 use Rattle.rules.specs.declared.Start.{Start}
-use Rattle.rules.specs.Kind.{kind_number}
-use Rattle.rules.specs.declared.kind.ObjectKind.{ObjectKind}
+use Rattle.table.specs.Kind.{object_number}
+use Rattle.table.specs.declared.kind.ObjectKind.{ObjectKind}
 use Rattle.rules.specs.declared.Start.TheVariants.{Body, ColorsBlock, Object}
 
 abbrev Ans : Type 0 → Type 0
@@ -104,17 +102,21 @@ SelectorRead bundle s kind c n ss ts xs ss' ts' xs' r =
     → left bundle s c < k
     → Selects bundle s (left bundle s c) (at_selectors τ ss' ts' xs') r (read_parts (reading bundle) k (bare y) (spot s c) (at_selectors τ ss ts xs n))
 
+-- the first token of the next selector and where that begins, or none behind the last; and how far the text is read
+abbrev pub Choice : Type 0
+Choice = Option (Token × Place) × Cursor × Tally
+
 -- what the last selector and the start of another lead to
 pub data Chooses (bundle : Bytes) (s : Source) (bound : ℕ) (tables : Tally → Lent) (L : Selector → Spot → Lent → Ans Rule) (N : Selector → Token' → Place → Spot → Lent → Ans Rule) : Result Choice Refusal → Ans Rule → Type 0 where
   unchosen : {e e' : Refusal} {τ : Lent} → e ≡ e' → Chooses bundle s bound tables L N (Err e) (refused e' τ)
   last_chosen :
       (σ : Selector) (d : Cursor) {n : Tally}
       → left bundle s d ≤ bound
-      → Chooses bundle s bound tables L N (Ok (LastChosen d n)) (L σ (spot s d) (tables n))
+      → Chooses bundle s bound tables L N (Ok (None, d, n)) (L σ (spot s d) (tables n))
   next_chosen :
       (σ : Selector) (t : Token) (o : Place) (d : Cursor) {n : Tally}
       → left bundle s d < bound
-      → Chooses bundle s bound tables L N (Ok (NextChosen t o d n)) (N σ (token_of bundle t) o (spot s d) (tables n))
+      → Chooses bundle s bound tables L N (Ok (Some (t, o), d, n)) (N σ (token_of bundle t) o (spot s d) (tables n))
 
 abbrev pub NextRead : Bytes → Source → Cursor → Tally → Result Choice Refusal → Type 0
 NextRead bundle s c n r =
@@ -137,7 +139,7 @@ pub data Starts (B C : Ans Rule) (O : ObjectType → Ans (Selector × Bool)) (K 
   bad_start : {e e' : Refusal} {τ : Lent} → e ≡ e' → Starts B C O K (Err e) (refused e' τ)
   body : Starts B C O K (Ok Body) B
   colors_block : Starts B C O K (Ok ColorsBlock) C
-  object : (y : ObjectType) {kind : ObjectKind} → type_number y ≡ kind_number kind → Starts B C O K (Ok (Object kind)) (after (O y) K)
+  object : (y : ObjectType) {kind : ObjectKind} → type_number y ≡ object_number kind → Starts B C O K (Ok (Object kind)) (after (O y) K)
 
 abbrev pub WordStart : Bytes → Range → Place → Result Start Refusal → Type 0
 WordStart bundle a o r =
@@ -170,12 +172,12 @@ RuleKept s c n rs rs' r =
     → Reads bundle s (left bundle s c) (at_body τ rs' τ.properties τ.numbers) r
     (keep_rule (reading bundle) ss ps (spot s c) (at_body τ rs τ.properties τ.numbers n))
 
-abbrev pub BodyRead : Bytes → Source → Cursor → Tally → Colors → List ℕ → List ℕ → List Float → List ℕ → List ℕ → List Float → Result (Cursor × Tally) Refusal → Type 0
-BodyRead bundle s c n Γ rs ps xs rs' ps' xs' r =
-    (τ : Lent) (k : ℕ) (ss : List Selector)
+-- the colours are Γ; from the tables τ to the others
+abbrev pub BodyRead : Bytes → Source → Cursor → Colors → Lent → (Tally → Lent) → Result (Cursor × Tally) Refusal → Type 0
+BodyRead bundle s c Γ τ tables r =
+    (k : ℕ) (ss : List Selector)
     → left bundle s c < k
-    → Reads bundle s (left bundle s c) (at_body τ rs' ps' xs') r
-    (read_body (reading bundle) k Γ ss (spot s c) (at_body τ rs ps xs n))
+    → Reads bundle s (left bundle s c) tables r (read_body (reading bundle) k Γ ss (spot s c) τ)
 
 abbrev pub BlockRead : Bytes → Source → Cursor → Tally → List ℕ → List ℕ → Result (Cursor × Tally) Refusal → Type 0
 BlockRead bundle s c n rs rs' r =
@@ -184,10 +186,10 @@ BlockRead bundle s c n rs rs' r =
     → Reads bundle s (left bundle s c) (at_body τ rs' τ.properties τ.numbers) r
     (read_block (reading bundle) k (spot s c) (at_body τ rs τ.properties τ.numbers n))
 
--- at the start t of a selector, which begins at o; the colours are those of the table
-abbrev pub RuleRead : Bytes → Source → Token → Place → Cursor → Tally → List ℕ → List ℕ → List ℕ → List ℕ → List ℕ → List Float → List ℕ → List ℕ → List ℕ → List ℕ → List Float → Result (Cursor × Tally) Refusal → Type 0
-RuleRead bundle s t o c n cs rs ss ts ps xs rs' ss' ts' ps' xs' r =
+-- at the start t of a selector, which begins at o, from the tables τ to the others; the colours are those of the table
+abbrev pub RuleRead : Bytes → Source → Token → Place → Cursor → Lent → (Tally → Lent) → Result (Cursor × Tally) Refusal → Type 0
+RuleRead bundle s t o c τ tables r =
     (k : ℕ)
     → left bundle s c < k
-    → Reads bundle s (left bundle s c) (λ m. lent m rs' ss' ts' ps' xs' cs) r
-    (read_rule (reading bundle) (suc k) (colors_of bundle cs n.colors) (lent n rs ss ts ps xs cs) (token_of bundle t) o (spot s c))
+    → Reads bundle s (left bundle s c) tables r
+    (read_rule (reading bundle) (suc k) (colors_of bundle τ.colors τ.tally.colors) τ (token_of bundle t) o (spot s c))

@@ -1,31 +1,14 @@
 // Colors blocks and names of object types: what is read with no table.
 ghost use Rattle.std.specs.Prelude.{◌≡◌};
 ghost use Rattle.base.specs.Bytes.{ascii, same, within};
-ghost use Rattle.rules.specs.Kind.{kind_number, object_kind, ColorsSkipped};
+ghost use Rattle.rules.specs.Kind.{object_kind, ColorsSkipped};
 
 use base::refusal::Refusal;
 use base::{Range, same_bytes};
 use cursor::Cursor;
-use input::Source;
-use input::tokens::read_mandatory_token;
+use input::Text;
+use table::kind::ObjectKind;
 use token_kind::Token;
-
-// The object types. docs/TABLES.md has their numbers.
-#[derive(Clone, Copy)]
-pub enum ObjectKind {
-    All = 1,
-    Canvas,
-    Meta,
-    Node,
-    Way,
-    Area,
-}
-
-pub fn kind_number(kind: ObjectKind) -> u8
-    ensures { result ≡ kind_number kind }
-{
-    kind as u8
-}
 
 pub fn object_type(bundle: &[u8], a: Range) -> Option<ObjectKind>
     ensures { result ≡ object_kind (within a bundle.now) }
@@ -33,31 +16,20 @@ pub fn object_type(bundle: &[u8], a: Range) -> Option<ObjectKind>
     type_of(base::part(bundle, a))
 }
 
+#[tactic(auto, using(crate::proofs::TypeNames::types))]
 fn type_of(name: &[u8]) -> Option<ObjectKind>
     ensures { result ≡ object_kind name.now }
 {
-    if same_bytes(name, b"*") {
-        return Some(ObjectKind::All);
+    match name {
+        b"*" => Some(ObjectKind::All),
+        b"canvas" => Some(ObjectKind::Canvas),
+        b"meta" => Some(ObjectKind::Meta),
+        b"node" => Some(ObjectKind::Node),
+        b"way" => Some(ObjectKind::Way),
+        b"line" => Some(ObjectKind::Way),
+        b"area" => Some(ObjectKind::Area),
+        _ => None,
     }
-    if same_bytes(name, b"canvas") {
-        return Some(ObjectKind::Canvas);
-    }
-    if same_bytes(name, b"meta") {
-        return Some(ObjectKind::Meta);
-    }
-    if same_bytes(name, b"node") {
-        return Some(ObjectKind::Node);
-    }
-    if same_bytes(name, b"way") {
-        return Some(ObjectKind::Way);
-    }
-    if same_bytes(name, b"line") {
-        return Some(ObjectKind::Way);
-    }
-    if same_bytes(name, b"area") {
-        return Some(ObjectKind::Area);
-    }
-    None
 }
 
 pub fn is_colors(bundle: &[u8], a: Range) -> bool
@@ -67,12 +39,12 @@ pub fn is_colors(bundle: &[u8], a: Range) -> bool
 }
 
 // Past the closing brace of a colors block.
-pub fn skip_colors(bundle: &[u8], source: Source, c: Cursor) -> Result<Cursor, Refusal>
-    ensures { ColorsSkipped bundle.now source c result }
+pub fn skip_colors(text: Text, c: Cursor) -> Result<Cursor, Refusal>
+    ensures { ColorsSkipped text.entry.bundle.now text.entry.source c result }
 {
     let mut at = c;
     loop {
-        let (t, _, d) = read_mandatory_token(bundle, source, at)?;
+        let (t, _, d) = text.read_mandatory_token(at)?;
         match t {
             Token::RightBrace => {
                 return Ok(d);

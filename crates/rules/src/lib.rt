@@ -1,18 +1,20 @@
 // Rules: a selector is stored at its comma or brace, a rule at its closing brace, a colors block too.
 #![tactic(auto)]
 
-ghost use Rattle.keep.specs.Lent.{colors_of};
-ghost use Rattle.rules.specs.Kind.{kind_number};
+ghost use Rattle.std.specs.Prelude.{◌≡◌};
+ghost use Rattle.keep.specs.Lent.{colors_of, lent_in, lends};
+ghost use Rattle.table.specs.Kind.{object_number};
 ghost use Rattle.rules.specs.Rules.{PartRead, AfterColon, AfterColons, SelectorKept, SelectorRead, NextRead, ChoiceRead, StartRead, WordStart, RuleKept, BodyRead, BlockRead, RuleRead};
 
 use base::Range;
 use base::refusal::{OBJECT_TYPE, PARSE, RULES, Refusal, SELECTORS, TABLE_FULL, UNEXPECTED_TOKEN};
 use cursor::Cursor;
-use input::tokens::{read_identifier, read_mandatory_token, refuse, refuse_reached};
-use input::{Place, Source};
-use keep::{Tally, keep_rule, keep_selector};
-use kind::{ObjectKind, is_colors, kind_number, object_type, skip_colors};
-use properties::read_properties;
+use input::tokens::{refuse, refuse_reached};
+use input::{Place, Source, Text};
+use keep::{Store, Tally, keep_rule, keep_selector};
+use kind::{is_colors, object_type, skip_colors};
+use properties::{Known, read_properties};
+use table::kind::ObjectKind;
 use tests::read_test;
 use token_kind::Token;
 
@@ -28,13 +30,6 @@ pub enum Part {
     Layer(Range, Cursor),
 }
 
-// The last selector of a rule, or the start of the next: its first token, where that begins, and the place behind it.
-#[derive(Clone, Copy)]
-pub enum Choice {
-    LastChosen(Cursor, Tally),
-    NextChosen(Token, Place, Cursor, Tally),
-}
-
 // What the first token of a selector begins: the properties, a colors block, or a selector of an object type.
 #[derive(Clone, Copy)]
 pub enum Start {
@@ -44,32 +39,32 @@ pub enum Start {
 }
 
 // The class behind a colon, which is dropped.
-fn read_class(bundle: &[u8], source: Source, c: Cursor) -> Result<Part, Refusal>
-    ensures { AfterColon bundle.now source c result }
+fn read_class(text: Text, c: Cursor) -> Result<Part, Refusal>
+    ensures { AfterColon text.entry.bundle.now text.entry.source c result }
 {
-    let (_, d) = read_identifier(bundle, source, c)?;
+    let (_, d) = text.read_identifier(c)?;
     Ok(Part::Class(d))
 }
 
 // The layer's name behind two colons.
-fn read_layer(bundle: &[u8], source: Source, c: Cursor) -> Result<Part, Refusal>
-    ensures { AfterColons bundle.now source c result }
+fn read_layer(text: Text, c: Cursor) -> Result<Part, Refusal>
+    ensures { AfterColons text.entry.bundle.now text.entry.source c result }
 {
-    let (a, d) = read_identifier(bundle, source, c)?;
+    let (a, d) = text.read_identifier(c)?;
     Ok(Part::Layer(a, d))
 }
 
-fn read_part(bundle: &[u8], source: Source, c: Cursor) -> Result<Part, Refusal>
-    ensures { PartRead bundle.now source c result }
+fn read_part(text: Text, c: Cursor) -> Result<Part, Refusal>
+    ensures { PartRead text.entry.bundle.now text.entry.source c result }
 {
-    let (t, o, d) = read_mandatory_token(bundle, source, c)?;
+    let (t, o, d) = text.read_mandatory_token(c)?;
     match t {
         Token::LeftBrace => Ok(Part::Closing(false, d)),
         Token::Comma => Ok(Part::Closing(true, d)),
         Token::ZoomRange(a, b) => Ok(Part::Zoom(a, b, d)),
         Token::LeftBracket => Ok(Part::Bracket(d)),
-        Token::Colon => read_class(bundle, source, d),
-        Token::DoubleColon => read_layer(bundle, source, d),
+        Token::Colon => read_class(text, d),
+        Token::DoubleColon => read_layer(text, d),
         _ => Err(refuse(PARSE, UNEXPECTED_TOKEN, o)),
     }
 }
@@ -86,9 +81,9 @@ fn store_selector(
     n: Tally,
     selectors: &mut [u32],
 ) -> Result<(bool, Cursor, Tally), Refusal>
-    ensures { SelectorKept source (kind_number kind) min max layer more c n selectors.old selectors.new result }
+    ensures { SelectorKept source (object_number kind) min max layer more c n selectors.old selectors.new result }
 {
-    let m = keep_selector(selectors, n, kind_number(kind), min, max, layer).ok_or(refuse_reached(
+    let m = keep_selector(selectors, n, kind.number(), min, max, layer).ok_or(refuse_reached(
         TABLE_FULL, SELECTORS, source, c,
     ))?;
     Ok((more, c, m))
@@ -96,8 +91,7 @@ fn store_selector(
 
 // Behind the object type of a selector.
 fn read_selector(
-    bundle: &[u8],
-    source: Source,
+    text: Text,
     kind: ObjectKind,
     c: Cursor,
     n: Tally,
@@ -105,7 +99,7 @@ fn read_selector(
     tests: &mut [u32],
     numbers: &mut [f64],
 ) -> Result<(bool, Cursor, Tally), Refusal>
-    ensures { SelectorRead bundle.now source (kind_number kind) c n selectors.old tests.old numbers.old selectors.new tests.new numbers.new result }
+    ensures { SelectorRead text.entry.bundle.now text.entry.source (object_number kind) c n selectors.old tests.old numbers.old selectors.new tests.new numbers.new result }
 {
     let mut min = None;
     let mut max = None;
@@ -113,10 +107,10 @@ fn read_selector(
     let mut at = c;
     let mut k = n;
     loop {
-        let part = read_part(bundle, source, at)?;
+        let part = read_part(text, at)?;
         match part {
             Part::Closing(more, d) => {
-                return store_selector(source, kind, min, max, layer, more, d, k, selectors);
+                return store_selector(text.source, kind, min, max, layer, more, d, k, selectors);
             }
             Part::Zoom(a, b, d) => {
                 min = a;
@@ -124,7 +118,7 @@ fn read_selector(
                 at = d;
             }
             Part::Bracket(d) => {
-                let (f, m) = read_test(bundle, source, d, k, tests, numbers)?;
+                let (f, m) = read_test(text, d, k, tests, numbers)?;
                 at = f;
                 k = m;
             }
@@ -139,32 +133,35 @@ fn read_selector(
     }
 }
 
-// A selector, and if more come, the first token of the next.
+// A selector, and if more come, the first token of the next and where that begins; and the place behind.
 fn read_choice(
-    bundle: &[u8],
-    source: Source,
+    text: Text,
     kind: ObjectKind,
     c: Cursor,
     n: Tally,
     selectors: &mut [u32],
     tests: &mut [u32],
     numbers: &mut [f64],
-) -> Result<Choice, Refusal>
-    ensures { ChoiceRead bundle.now source (kind_number kind) c n selectors.old tests.old numbers.old selectors.new tests.new numbers.new result }
+) -> Result<(Option<(Token, Place)>, Cursor, Tally), Refusal>
+    ensures { ChoiceRead text.entry.bundle.now text.entry.source (object_number kind) c n selectors.old tests.old numbers.old selectors.new tests.new numbers.new result }
 {
-    let (more, d, m) = read_selector(bundle, source, kind, c, n, selectors, tests, numbers)?;
+    let (more, d, m) = read_selector(text, kind, c, n, selectors, tests, numbers)?;
     if more {
-        return next_choice(bundle, source, d, m);
+        return next_choice(text, d, m);
     }
-    Ok(Choice::LastChosen(d, m))
+    Ok((None, d, m))
 }
 
 // The first token of the next selector.
-fn next_choice(bundle: &[u8], source: Source, c: Cursor, n: Tally) -> Result<Choice, Refusal>
-    ensures { NextRead bundle.now source c n result }
+fn next_choice(
+    text: Text,
+    c: Cursor,
+    n: Tally,
+) -> Result<(Option<(Token, Place)>, Cursor, Tally), Refusal>
+    ensures { NextRead text.entry.bundle.now text.entry.source c n result }
 {
-    let (t, o, d) = read_mandatory_token(bundle, source, c)?;
-    Ok(Choice::NextChosen(t, o, d, n))
+    let (t, o, d) = text.read_mandatory_token(c)?;
+    Ok((Some((t, o)), d, n))
 }
 
 // A name at the start of a selector.
@@ -203,52 +200,50 @@ fn store_rule(
 
 // Behind the opening brace of a rule.
 fn read_body(
-    bundle: &[u8],
-    source: Source,
+    text: Text,
     c: Cursor,
     n: Tally,
-    rules: &mut [u32],
-    properties: &mut [u32],
-    numbers: &mut [f64],
-    colors: &[u32],
+    store: &mut Store<'_>,
     known: usize,
 ) -> Result<(Cursor, Tally), Refusal>
-    ensures { BodyRead bundle.now source c n (colors_of bundle.now colors.now known) rules.old properties.old numbers.old rules.new properties.new numbers.new result }
+    ensures read { BodyRead text.entry.bundle.now text.entry.source c (colors_of text.entry.bundle.now store.old.colors.now known) (lent_in n store.old) (λ m. lent_in m store.new) result }
+    ensures colors { store.new.colors.now ≡ store.old.colors.now }
+    ensures lends { lends store.new ≡ lends store.old }
 {
-    let (d, m) = read_properties(bundle, source, c, n, properties, numbers, colors, known)?;
-    store_rule(source, d, m, rules)
+    let colors = &mut *store.colors;
+    let known = Known {
+        colors: &colors[..],
+        n: known,
+    };
+    let (d, m) = read_properties(text, c, n, store.properties, store.numbers, known)?;
+    store_rule(text.source, d, m, store.rules)
 }
 
 // Behind the word colors.
 fn read_block(
-    bundle: &[u8],
-    source: Source,
+    text: Text,
     c: Cursor,
     n: Tally,
     rules: &mut [u32],
 ) -> Result<(Cursor, Tally), Refusal>
-    ensures { BlockRead bundle.now source c n rules.old rules.new result }
+    ensures { BlockRead text.entry.bundle.now text.entry.source c n rules.old rules.new result }
 {
-    let d = skip_colors(bundle, source, c)?;
-    store_rule(source, d, n, rules)
+    let d = skip_colors(text, c)?;
+    store_rule(text.source, d, n, rules)
 }
 
 // From the first token of a rule on, which begins at o.
 pub fn read_rule(
-    bundle: &[u8],
-    source: Source,
+    text: Text,
     t: Token,
     o: Place,
     c: Cursor,
     n: Tally,
-    rules: &mut [u32],
-    selectors: &mut [u32],
-    tests: &mut [u32],
-    properties: &mut [u32],
-    numbers: &mut [f64],
-    colors: &[u32],
+    store: &mut Store<'_>,
 ) -> Result<(Cursor, Tally), Refusal>
-    ensures { RuleRead bundle.now source t o c n colors.now rules.old selectors.old tests.old properties.old numbers.old rules.new selectors.new tests.new properties.new numbers.new result }
+    ensures read { RuleRead text.entry.bundle.now text.entry.source t o c (lent_in n store.old) (λ m. lent_in m store.new) result }
+    ensures colors { store.new.colors.now ≡ store.old.colors.now }
+    ensures lends { lends store.new ≡ lends store.old }
 {
     let known = n.colors;
     let mut first = t;
@@ -256,31 +251,31 @@ pub fn read_rule(
     let mut at = c;
     let mut k = n;
     loop {
-        let start = rule_start(bundle, first, begins)?;
+        let start = rule_start(text.bundle, first, begins)?;
         match start {
             Start::Body => {
-                return read_body(
-                    bundle, source, at, k, rules, properties, numbers, colors, known,
-                );
+                return read_body(text, at, k, store, known);
             }
             Start::ColorsBlock => {
-                return read_block(bundle, source, at, k, rules);
+                return read_block(text, at, k, store.rules);
             }
             Start::Object(kind) => {
-                let choice = read_choice(bundle, source, kind, at, k, selectors, tests, numbers)?;
-                match choice {
-                    Choice::LastChosen(d, m) => {
-                        return read_body(
-                            bundle, source, d, m, rules, properties, numbers, colors, known,
-                        );
-                    }
-                    Choice::NextChosen(u, p, d, m) => {
-                        first = u;
-                        begins = p;
-                        at = d;
-                        k = m;
-                    }
-                }
+                let (next, d, m) = read_choice(
+                    text,
+                    kind,
+                    at,
+                    k,
+                    store.selectors,
+                    store.tests,
+                    store.numbers,
+                )?;
+                let Some((u, p)) = next else {
+                    return read_body(text, d, m, store, known);
+                };
+                first = u;
+                begins = p;
+                at = d;
+                k = m;
             }
         }
     }

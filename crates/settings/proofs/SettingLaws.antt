@@ -1,12 +1,11 @@
 -- Counts and settings as the code makes them.
-use Prim.Native.Nat.{ℕ, ◌≤◌, ◌<◌}
+use Prim.Native.Nat.{ℕ}
 use mathlib.Core.Path.{◌≡◌, refl}
-use mathlib.Core.Bool.{Bool, true, false}
+use mathlib.Core.Bool.{Bool}
 use mathlib.Core.List.{List, [], ◌∷◌}
-use native.Mathlib.Omega.{arith}
 use lib.Ieee.{Float}
-use lib.ListN.{length, get_or}
-use Rattle.std.specs.Prelude.{Some, None}
+use lib.ListN.{get_or}
+use Rattle.std.specs.Prelude.{Option, slice_get}
 use Rattle.valid.specs.declared.Counts.{Counts}
 use Rattle.style.specs.declared.Settings.{Settings}
 use Rattle.style.specs.declared.StyleType.{StyleType}
@@ -22,24 +21,11 @@ pub counts_read :
     → ◌≡◌ {A = Counts} (record { rules = a; selectors = b; tests = c; properties = d; numbers = e }) (counts_at cs)
 counts_read cs a b c d e p q r s t = rw (p, q, r, s, t) refl
 
-pub settings_there :
-    (k : ℕ) (font : List Float) (b : Bool) {t : StyleType} (d : Float)
+pub settings_are :
+    (k : ℕ) (font : List Float) (b : Bool) {t : StyleType} {m : Option Float}
     → t ≡ type_of k
-    → 0 < length font
-    → ◌≡◌ {A = Settings}
-    (record { style_type = t; font_multiplier = Some (get_or font 0 d); for_labels = b })
-    (settings_of k font b)
+    → m ≡ slice_get font 0
+    → ◌≡◌ {A = Settings} (record { style_type = t; font_multiplier = m; for_labels = b }) (settings_of k font b)
 unfolding settings_of
-settings_there k [] b d e h = absurd (omega arith)
-settings_there k (x ∷ font) b d e h = rw e refl
-
-pub settings_none :
-    (k : ℕ) (font : List Float) (b : Bool) {t : StyleType}
-    → t ≡ type_of k
-    → length font ≤ 0
-    → ◌≡◌ {A = Settings}
-    (record { style_type = t; font_multiplier = None; for_labels = b })
-    (settings_of k font b)
-unfolding settings_of
-settings_none k [] b e h = rw e refl
-settings_none k (x ∷ font) b e h = absurd (omega arith)
+settings_are k [] b d e = rw (d, e) refl
+settings_are k (x ∷ font) b d e = rw (d, e) refl

@@ -4,17 +4,14 @@
 ghost use Rattle.std.specs.Prelude.{◌≡◌, get_or};
 ghost use Rattle.settings.specs.Settings.{counts_at, type_of, settings_of};
 
+use base::at_or;
 use style::{Settings, StyleType};
 use valid::Counts;
 
 fn count_at(counts: &[u64], i: usize) -> usize
     ensures { result ≡ get_or counts.now i 0 }
 {
-    if i < counts.len() {
-        counts[i] as usize
-    } else {
-        0
-    }
+    at_or(counts, i, 0) as usize
 }
 
 // The counts, in the order in which a load stores them; one that is not there is 0.
@@ -42,17 +39,9 @@ pub fn type_of(k: u8) -> StyleType
 pub fn settings_of(k: u8, font: &[f64], for_labels: bool) -> Settings
     ensures { result ≡ settings_of k font.now for_labels }
 {
-    let style_type = type_of(k);
-    if 0 < font.len() {
-        return Settings {
-            style_type,
-            font_multiplier: Some(font[0]),
-            for_labels,
-        };
-    }
     Settings {
-        style_type,
-        font_multiplier: None,
+        style_type: type_of(k),
+        font_multiplier: font.first().copied(),
         for_labels,
     }
 }

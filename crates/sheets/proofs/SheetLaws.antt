@@ -352,14 +352,13 @@ module _ (bundle : Bytes) (s : Source) where
       after_done {B = Reading} (λ z. left bundle s f < left bundle s at) (λ js e τ. read [] e τ) (i τ) y λ js v. omega arith
 
   pub rule_less :
-      (at : Cursor) (n : Tally) (rs ss ts ps : List ℕ) (xs : List Float) (cs : List ℕ) {rs' ss' ts' ps' : List ℕ} {xs' : List Float} {st : Result Statement Refusal} {t : Token} {o : Place} {d f : Cursor} {r : Result (Cursor × Tally) Refusal} {m : Tally}
+      (at : Cursor) (τ : Lent) {st : Result Statement Refusal} {t : Token} {o : Place} {d f : Cursor} {r : Result (Cursor × Tally) Refusal} {m : Tally} {tables : Tally → Lent}
       → StatementRead bundle s at st
       → st ≡ Ok (RuleAt t o d)
-      → RuleRead bundle s t o d n cs rs ss ts ps xs rs' ss' ts' ps' xs' r
+      → RuleRead bundle s t o d τ tables r
       → r ≡ Ok (f, m)
       → left bundle s f < left bundle s at
-  rule_less at n rs ss ts ps xs cs {d = d} {f = f} h x i y =
-      let τ = lent n rs ss ts ps xs cs in
+  rule_less at τ {d = d} {f = f} h x i y =
       statement_rule (λ z. left bundle s f < left bundle s at) (h τ (λ d. read [] d τ) (λ n d. read [] d τ) (λ n d. read [] d τ) (λ t o d. read [] d τ)) x λ l.
       after_done {B = Reading} (λ z. left bundle s f < left bundle s at) (λ js e τ. read [] e τ) (i (suc (left bundle s d)) (omega arith)) y λ js v. omega arith
 
@@ -421,17 +420,17 @@ module _ (bundle : Bytes) (s : Source) (depth : ℕ) (τ₀ : Lent) where
         after_done (Parses _ _) _ (i (lent n rs ss ts ps xs cs)) y λ js l. before_parses js _ q
 
   -- a rule
-  module _ (at : Cursor) (n : Tally) (rs ss ts ps : List ℕ) (xs : List Float) (cs : List ℕ) {rs' ss' ts' ps' : List ℕ} {xs' : List Float} {st : Result Statement Refusal} {t : Token} {o : Place} {d : Cursor} {r : Result (Cursor × Tally) Refusal} (h : StatementRead bundle s at st) (x : st ≡ Ok (RuleAt t o d)) (i : RuleRead bundle s t o d n cs rs ss ts ps xs rs' ss' ts' ps' xs' r) where
-    pub rule_stops : {e : Refusal} {others : Tally → Lent} → Parsing at (lent n rs ss ts ps xs cs) → r ≡ Err e → Parses others (Err e) whole_of
+  module _ (at : Cursor) (τ : Lent) {st : Result Statement Refusal} {t : Token} {o : Place} {d : Cursor} {r : Result (Cursor × Tally) Refusal} {tables : Tally → Lent} (h : StatementRead bundle s at st) (x : st ≡ Ok (RuleAt t o d)) (i : RuleRead bundle s t o d τ tables r) where
+    pub rule_stops : {e : Refusal} {others : Tally → Lent} → Parsing at τ → r ≡ Err e → Parses others (Err e) whole_of
     unfolding parse
     rule_stops g y =
         goes_end (λ b t r a. Parses t r a) bundle s _ _ at _ g λ k l.
         statement_rule (Parses _ _) (h _ _ _ _ _) x λ m.
         after_refused (Parses _ _) _ (i k (omega arith)) y λ e τ p. stopped p
 
-    pub rule_on : {f : Cursor} {m : Tally} → Parsing at (lent n rs ss ts ps xs cs) → r ≡ Ok (f, m) → Parsing f (lent m rs' ss' ts' ps' xs' cs)
+    pub rule_on : {f : Cursor} {m : Tally} → Parsing at τ → r ≡ Ok (f, m) → Parsing f (tables m)
     unfolding parse
     rule_on {f} g y =
-        goes_on (λ b t r a. Parses t r a) bundle s _ _ at f _ _ g (rule_less bundle s at n rs ss ts ps xs cs h x i y) λ k l t r q.
+        goes_on (λ b t r a. Parses t r a) bundle s _ _ at f _ _ g (rule_less bundle s at τ h x i y) λ k l t r q.
         statement_rule (Parses _ _) (h _ _ _ _ _) x λ m.
         after_done (Parses _ _) _ (i k (omega arith)) y λ js l. before_parses (rule_item js ∷ []) _ q

@@ -28,7 +28,7 @@ use Rattle.keep.specs.Lent.{Lent, lent, counted}
 use Rattle.walk.specs.Maps.{walk_of}
 use Rattle.maps.proofs.Held.{walk_is, refusal_named}
 use Rattle.style.specs.declared.Settings.{Settings}
-use Rattle.drawing.specs.Gather.{Gathered, stopped, gathered, on-Gathered, Spot, entity_keys, gather_turn, gather_of}
+use Rattle.drawing.specs.Gather.{Gathered, gathered, on-Gathered, Spot, entity_keys, gather_turn, gather_of}
 use Rattle.shown.specs.Style.{settings_shown}
 use Rattle.shown.specs.Draws.{ended, stream_drawn}
 use Rattle.shown.proofs.Rows.{value}

@@ -1,20 +1,18 @@
 -- The layers that a table of maps holds, with values for numbers; and the place of the default layer among them.
 use Prim.Native.Nat.{ℕ, zero, suc, ◌+◌, ◌*◌, ◌≤◌}
 use native.Mathlib.Omega.{arith}
-use mathlib.Core.Path.{◌≡◌, refl, sym, ◌∙◌, ap, ap₂}
-use mathlib.Core.Bool.{Bool, true, false, not, cond}
+use mathlib.Core.Path.{◌≡◌, refl, ◌∙◌, ap, ap₂}
 use mathlib.Core.List.{List, [], ◌∷◌, map}
 use mathlib.Core.Option
 use mathlib.Core.Option.{Option, none, some}
 use lib.Dec.{ltb}
-use lib.ListN.{get_or, length}
+use lib.ListN.{get_or}
 use borrow.Author.Tests.{lt-ltb, le-ltb}
 use Rattle.base.specs.Bytes.{Bytes, ascii, same}
-use Rattle.base.specs.Choice.{pick, by-test}
+use Rattle.base.specs.Choice.{pick, by-test, if_false}
 use Rattle.base.specs.Map.{Entry, Map, entry, lookup}
 use Rattle.sheet.specs.Sheet.{Value}
-use Rattle.cascade.specs.Cascade.{Layers}
-use Rattle.cascade.specs.Clause.{star, default_name, layer_name}
+use Rattle.cascade.specs.Clause.{default_name, layer_name}
 use Rattle.cascade.specs.Map.{keep, map_entry}
 use Rattle.cascade.proofs.MapLaws.{keep_map}
 use Rattle.cascade.specs.Number.{whole}
@@ -28,7 +26,6 @@ use Rattle.walk.specs.Maps.{layer_place}
 use Rattle.walk.specs.Rows.{numbers_at}
 use Rattle.walk.specs.Run.{seek}
 use Rattle.walk.specs.Selectors.{layer_in}
-use Rattle.walk.proofs.WalkLaws.{place_few}
 use Rattle.maps.specs.Held.{layer_held, layers_held}
 use Rattle.style.specs.Get.{number_of}
 use Rattle.style.specs.Style.{width_or_zero}
@@ -76,6 +73,10 @@ module _ (bundle : Bytes) (τ : Lent) (t : List ℕ) where
       let n : i + suc k ≡ i + 1 + k = omega arith in
       rw (seek, e, n) (seek_lookup l k (i + 1)))
 
+  placed : (n : ℕ) → n ≤ 32 → seek layer t default_name 0 n ≡ layer_place (layer_in bundle τ.selectors) t n default_name
+  unfolding layer_place
+  placed n h = if_false _ _ _ (le-ltb 32 n h) refl
+
   pub default_is :
       (n : ℕ)
       → n ≤ 32
@@ -84,7 +85,7 @@ module _ (bundle : Bytes) (τ : Lent) (t : List ℕ) where
   unfolding default_width width_or_zero theory.width_or_zero pick
   default_is n h =
       let j = seek layer t default_name 0 n in
-      let p : j ≡ layer_place (layer_in bundle τ.selectors) t n default_name = place_few layer t n default_name h j refl in
+      let p : j ≡ layer_place (layer_in bundle τ.selectors) t n default_name = placed n h in
       let z : 0 + n ≡ n = omega arith in
       rw (default_width, ← p, seek_lookup default_name n 0, z)
       (by-test (ltb j n)

@@ -1,13 +1,13 @@
 -- The style of a row is the theory's, field by field.
-use Prim.Native.Nat.{ℕ, zero, suc, ◌-◌}
+use Prim.Native.Nat.{ℕ, suc, ◌-◌}
 use mathlib.Core.Path.{◌≡◌, refl, sym, ◌∙◌, ap, ap₂}
-use mathlib.Core.Bool.{Bool, true, false, not, cond, ◌&&◌}
-use mathlib.Core.List.{List, [], ◌∷◌, ◌++◌, map, append_assoc}
+use mathlib.Core.Bool.{Bool, true, false, not, ◌&&◌}
+use mathlib.Core.List.{List, [], ◌∷◌, ◌++◌, append_assoc}
 use mathlib.Core.Option
 use mathlib.Core.Option.{Option as Maybe, none, some}
 use lib.Dec.{eqb, ltb}
-use lib.Ieee.{Float, binary64, add, mul}
-use lib.ListN.{length, get_or, take, drop}
+use lib.Ieee.{Float, binary64, mul}
+use lib.ListN.{length, take, drop}
 use Rattle.base.specs.Bytes.{Bytes, ascii, same, within}
 use native.Mathlib.Omega.{arith}
 use borrow.Author.Tests.{eqb-true, eq-eqb, lt-ltb, le-ltb, ltb-true, ltb-false, not-true}
@@ -18,11 +18,10 @@ use Rattle.cascade.specs.Map.{and_map, or_else}
 use Rattle.cascade.specs.Number.{whole}
 use Rattle.cascade.specs.Style as theory
 use Rattle.cascade.specs.Style.{named_color, as_color, as_number, as_identifier, as_text, as_dashes, as_delta, cap_names, position_names, is_background, width_of, style_from}
-use Rattle.sheet.specs.Sheet.{Value, identifier, string, color, numbers, width_delta}
-use Rattle.table.specs.Value.{value_at}
+use Rattle.sheet.specs.Sheet.{Value, numbers}
 use Rattle.table.specs.declared.Name.TheVariants.{Plain, Joined}
 use Rattle.table.specs.declared.PropertyValue.TheVariants.{NoValue, Identifier, Text, Shade, Numbers, WidthDelta}
-use Rattle.decode.specs.Decode.{joined_at, name_at, property_at, value_of}
+use Rattle.decode.specs.Decode.{name_at, value_of}
 use Rattle.keep.specs.Lent.{Lent}
 use Rattle.walk.specs.Rows.{place_of}
 use Rattle.style.specs.Get.{property_in, name_color, color_of, one_of, number_of, delta_of, dashes_of, text_of, name_range, word_range, word_of, cap_named, position_named}
@@ -31,7 +30,7 @@ use Rattle.base.specs.Option.{on_option}
 use Rattle.style.specs.declared.Settings.{Settings}
 use Rattle.style.specs.declared.StyleType.{StyleType}
 use Rattle.style.specs.declared.StyleType.TheVariants.{Josm, MapsMe}
-use Rattle.shown.specs.Style.{measure_shown, layer_shown, cap_shown, position_shown, type_shown, settings_shown, text_shown, dashes_shown, with_text, style_shown, properties_of, StyleIs}
+use Rattle.shown.specs.Style.{measure_shown, cap_shown, position_shown, type_shown, settings_shown, text_shown, dashes_shown, with_text, style_shown, properties_of, StyleIs}
 use Rattle.std.specs.Prelude.{Option, Some, None}
 use Rattle.table.specs.declared.Name.{Name}
 use Rattle.table.specs.declared.PropertyValue.{PropertyValue}
@@ -330,7 +329,6 @@ module _ (bundle : Bytes) (τ : Lent) (row : List ℕ) where
       (x : Option Name) (o : Maybe Bytes) (s : Settings)
       → text_shown bundle τ.numbers x ≡ o
       → with_text bundle τ.numbers (text_style_of bundle τ.properties τ.numbers row x s)
-      (text_shown bundle τ.numbers (text_style_of bundle τ.properties τ.numbers row x s).text)
       ≡ and_map (λ t. some (theory.text_of (settings_shown s) m t)) o
   unfolding text_style_of text_shown with_text and_map theory.text_of
   label_is None o s e = rw (← e)

@@ -1,40 +1,37 @@
 -- The styles that a call answers are the theory's.
 use Prim.Native.Nat.{ℕ, ◌≤◌}
 use mathlib.Core.Path.{◌≡◌, refl, sym, ◌∙◌, ap, ap₂}
-use mathlib.Core.Bool.{Bool, true, false}
+use mathlib.Core.Bool.{true, false}
 use mathlib.Core.List.{List, [], ◌∷◌, map, map-map}
-use mathlib.Core.Option.{Option, none, some, get_or}
+use mathlib.Core.Option.{Option, none, some}
 use lib.IntN.{ℤ}
-use lib.Ieee.{Float}
-use lib.ListN.{length, take}
 use lib.Seq.{take-append_seam}
 use Rattle.base.specs.Bytes.{Bytes}
 use Rattle.base.specs.Choice.{pick}
 use Rattle.base.specs.Map.{Entry, Map, entry, lookup}
 use Rattle.base.specs.Entity.{Entity}
 use Rattle.entity.specs.Layout.{value_of}
-use Rattle.entity.specs.declared.EntityRange.{EntityRange}
-use Rattle.sheet.specs.Sheet.{Rule, Value}
+use Rattle.sheet.specs.Sheet.{Value}
 use Rattle.cascade.specs.Clause.{default_name}
-use Rattle.cascade.specs.Map.{keep, map_entry}
-use Rattle.cascade.specs.Numbered.{map_rule, map_answer, map_layers}
+use Rattle.cascade.specs.Map.{map_entry}
+use Rattle.cascade.specs.Numbered.{map_rule, map_answer}
 use Rattle.cascade.proofs.NumberedLaws.{maps_mapped}
 use Rattle.cascade.specs.Style as theory
 use Rattle.cascade.specs.Style.{layer_tag, not_star, style_of, styles}
-use Rattle.cascade.specs.Walk.{Answer, refused, layers, property_maps}
+use Rattle.cascade.specs.Walk.{property_maps}
 use Rattle.tag_number.specs.Told.{layer_told}
 use Rattle.decode.specs.Decode.{places, name_at, numbered_at, rules_at}
 use Rattle.keep.specs.Lent.{Lent, lent, counted}
 use Rattle.walk.specs.Maps.{walk_of}
 use Rattle.walk.specs.Rows.{numbers_at}
 use Rattle.walk.proofs.WalkLaws.{rules_few}
-use Rattle.maps.specs.Held.{answer_held, layers_held}
+use Rattle.maps.specs.Held.{answer_held}
 use Rattle.maps.proofs.Held.{walk_is, few_layers}
 use Rattle.style.specs.declared.Settings.{Settings}
-use Rattle.styles.specs.Styles.{blank_layer, no_styles, styled_rows, default_width, layer_styled, layers_styled, filled_layers, styles_from, styles_of}
+use Rattle.styles.specs.Styles.{styled_rows, default_width, layer_styled, layers_styled, filled_layers, styles_from, styles_of}
 use Rattle.shown.specs.Style as one
 use Rattle.shown.specs.Style.{settings_shown, properties_of}
-use Rattle.shown.specs.Styles.{Styling, declined, styled, styling_of, layer_shown, held_by, styles_held, StylesAre}
+use Rattle.shown.specs.Styles.{styled, styling_of, layer_shown, styles_held, StylesAre}
 use Rattle.shown.proofs.StyleIs.{style_is}
 use Rattle.shown.proofs.Rows.{value, layer, valued, layers_valued, styled_rows_lem, default_is}
 use Rattle.std.specs.Prelude.{Result, Ok, Err}
@@ -82,9 +79,9 @@ module _ (bundle : Bytes) (τ : Lent) (s : Settings) (e : Entity) (t : List ℕ)
 
   filled :
       styles_held bundle τ.selectors τ.numbers
-      (filled_layers bundle τ.selectors τ.properties τ.numbers t n e.kind (layer_told (layer_tag e)) s)
+      (Ok (filled_layers bundle τ.selectors τ.properties τ.numbers t n e.kind (layer_told (layer_tag e)) s))
       ≡ styled (styles (settings_shown s) e all)
-  unfolding filled_layers held_by styles
+  unfolding filled_layers styles_held styles
   filled =
       let ls = layers_styled bundle τ.selectors τ.properties τ.numbers t n e.kind (layer_told (layer_tag e)) s in
       ap styled
@@ -103,7 +100,7 @@ pub from_walk :
     (styles_from bundle τ.selectors τ.properties τ.numbers e.kind (layer_told (layer_tag e)) s x)
     ≡ styling_of (settings_shown s) e
     (map_answer (value bundle τ []) (answer_held (name_at bundle τ.properties) (layer bundle τ []) x))
-unfolding styles_from no_styles held_by styling_of
+unfolding styles_from styles_held styling_of
 from_walk bundle τ s e (Err r, t) h = refl
 from_walk bundle τ s e (Ok n, t) h =
     filled bundle τ s e t n (h n t refl)

@@ -1,5 +1,5 @@
 -- What a style struct holds: names and texts as bytes, numbers as floats, what is absent as none. And that this is the theory's style.
-use Rattle.std.specs.Prelude.{ℕ, ◌-◌, ◌≡◌, Bool, true, false, List, map, ℤ, Float, take, drop, Option, Some, None}
+use Rattle.std.specs.Prelude.{ℕ, ◌-◌, ◌≡◌, List, map, ℤ, Float, take, drop, Option, Some, None}
 use Rattle.std.proofs.Math.Option.{Option as Maybe, none, some, get_or}
 use Rattle.base.specs.Bytes.{Bytes, within}
 use Rattle.base.specs.Map.{Map}
@@ -55,28 +55,31 @@ settings_shown s =
 
 -- beside the bundle and the table of numbers
 module _ (bundle : Bytes) (numbers : List Float) where
+  abbrev pub name_shown : Name → Bytes
+  name_shown (Plain a) = within a bundle
+  name_shown (Joined a b) = joined_at bundle a b
+
   unfoldable pub text_shown : Option Name → Maybe Bytes
   text_shown None = none
-  text_shown (Some (Plain a)) = some (within a bundle)
-  text_shown (Some (Joined a b)) = some (joined_at bundle a b)
+  text_shown (Some n) = some (name_shown n)
 
   unfoldable pub dashes_shown : Option Range → Maybe (List Float)
   dashes_shown None = none
   dashes_shown (Some r) = some (take (r.to - r.from) (drop r.from numbers))
 
-  abbrev pub text_style : TextStyle → Bytes → theory.TextStyle
-  text_style t w =
+  abbrev pub text_style : TextStyle → theory.TextStyle
+  text_style t =
       record {
-        text = w;
+        text = name_shown t.text;
         text_color = named_color t.text_color;
         text_position = position_shown t.text_position;
         font_size = measure_shown t.font_size;
       }
 
   -- none without a text
-  unfoldable pub with_text : TextStyle → Maybe Bytes → Maybe theory.TextStyle
-  with_text t none = none
-  with_text t (some w) = some (text_style t w)
+  unfoldable pub with_text : Option TextStyle → Maybe theory.TextStyle
+  with_text None = none
+  with_text (Some t) = some (text_style t)
 
   unfoldable pub style_shown : Style → theory.Style
   style_shown s =
@@ -98,7 +101,7 @@ module _ (bundle : Bytes) (numbers : List Float) where
         casing_line_cap = cap_shown s.casing_line_cap;
         icon_image = text_shown s.icon_image;
         fill_image = text_shown s.fill_image;
-        text_style = with_text s.text_style (text_shown s.text_style.text);
+        text_style = with_text s.text_style;
       }
 
 -- the properties that a row of numbers stands for

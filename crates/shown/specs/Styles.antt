@@ -1,5 +1,5 @@
 -- The styles that a call answers, layer by layer, and that they are the theory's.
-use Rattle.std.specs.Prelude.{ℕ, ◌≤◌, ◌≡◌, Bool, true, List, map, Float, length, take, Result, Ok, Err}
+use Rattle.std.specs.Prelude.{ℕ, ◌≡◌, true, List, map, Float, length, take, Result, Ok, Err}
 use Rattle.base.specs.Bytes.{Bytes}
 use Rattle.base.specs.Map.{Entry, Map, entry}
 use Rattle.base.specs.Entity.{Entity}
@@ -36,12 +36,9 @@ module _ (bundle : Bytes) (selectors : List ℕ) (numbers : List Float) where
   abbrev pub layer_shown : StyledLayer → Entry theory.Style
   layer_shown x = entry (layer_in bundle selectors x.selector) (style_shown bundle numbers x.style)
 
-  unfoldable pub held_by : Result ℕ Refusal → List StyledLayer → Styling
-  held_by (Err r) ls = declined r.number
-  held_by (Ok k) ls = styled (map layer_shown (take k ls))
-
-  abbrev pub styles_held : EntityStyles → Styling
-  styles_held x = held_by x.answer x.layers
+  unfoldable pub styles_held : Result EntityStyles Refusal → Styling
+  styles_held (Err r) = declined r.number
+  styles_held (Ok x) = styled (map layer_shown (take x.count x.layers))
 
 -- For tables and an entity that pass their checks the styles are those of the theory, under the same settings; or the walk's refusal.
 abbrev pub StylesAre : Type 0

@@ -1,7 +1,7 @@
 -- What is there, else a default; and the only number of a range of the table of numbers, cut to the table, by how many it has.
 use Prim.Native.Nat.{ℕ, suc, ◌-◌, ◌≤◌, ◌<◌}
 use native.Mathlib.Omega.{arith}
-use mathlib.Core.Path.{◌≡◌, refl}
+use mathlib.Core.Path.{◌≡◌, refl, sym, ◌∙◌, ap}
 use mathlib.Core.List.{List, [], ◌∷◌}
 use lib.Ieee.{Float, nan, binary64, of_bits, of_int}
 use Rattle.cascade.specs.Number.{whole}
@@ -9,7 +9,10 @@ use lib.ListN.{length, take, drop, get_or, drop_of_length-le}
 use lib.Seq.{take_all, take-nil, drop-cons}
 use Rattle.style.specs.Get.{one_of}
 use Rattle.std.specs.Prelude.{Option, Some, None, unwrap_or}
+use lib.Dec.{ltb}
+use Rattle.base.specs.Choice.{pick, by-test}
 use Rattle.base.specs.Option.{on_option}
+use Rattle.walk.specs.Rows.{below}
 
 pub or_else : (m : Option Float) (d : Float) → unwrap_or m d ≡ on_option m d (λ w. w)
 unfolding on_option
@@ -20,6 +23,26 @@ pub or_one : (m : Option Float) → unwrap_or m (of_bits binary64 46071824188000
 unfolding on_option of_bits of_int
 or_one None = refl
 or_one (Some w) = refl
+
+-- what stands at a place that was looked for, or nothing
+module _ {A : Type 0} (n k : ℕ) (f : ℕ → A) (r : Option ℕ) (e : r ≡ below n k) where
+  abbrev at : Option ℕ → Option A
+  at r = on_option r None (λ i. Some (f i))
+
+  abbrev there : Option A
+  there = pick (ltb k n) (Some (f k)) None
+
+  at_there : at (below n k) ≡ there
+  unfolding below on_option pick
+  at_there = by-test (ltb k n) (λ a. rw a) (λ a. rw a)
+
+  pub place_none : r ≡ None → None ≡ there
+  unfolding on_option
+  place_none q = ap at (sym q ∙ e) ∙ at_there
+
+  pub place_some : (i : ℕ) → r ≡ Some i → Some (f i) ≡ there
+  unfolding on_option
+  place_some i q = ap at (sym q ∙ e) ∙ at_there
 
 module _ (numbers : List Float) (from to : ℕ) where
   abbrev pub read : Option Float

@@ -91,21 +91,19 @@ module _ (bundle : Bytes) (properties : List ℕ) (numbers : List Float) (row : 
       full_casing (casing_multiplier t) base
       (casing_only base (number_in (ascii "casing-width")) (delta_in (ascii "casing-width")))
 
-  abbrev pub no_text : TextStyle
-  no_text =
-      record { text = None; text_color = None; text_position = None; font_size = None }
-
-  unfoldable pub text_style_of : Option Name → Settings → TextStyle
-  text_style_of None s = no_text
+  -- none without a text
+  unfoldable pub text_style_of : Option Name → Settings → Option TextStyle
+  text_style_of None s = None
   text_style_of (Some t) s =
-      record {
-        text = Some t;
+      Some
+      (record {
+        text = t;
         text_color = color_in (ascii "text-color");
         text_position = position_in (ascii "text-position");
         font_size = font_size (number_in (ascii "font-size")) s;
-      }
+      })
 
-  abbrev pub text_style_in : Settings → TextStyle
+  abbrev pub text_style_in : Settings → Option TextStyle
   text_style_in s = text_style_of (text_in (ascii "text")) s
 
   unfoldable pub style_at : ℕ → Option ℤ → Float → Settings → Style

@@ -1,92 +1,84 @@
 // The getters of property_map_to_style: what a layer's property of a name is read as.
 ghost use Rattle.std.specs.Prelude.{◌≡◌, ◌-◌, take, drop};
-ghost use Rattle.style.specs.Get.{property_in, color_of, name_color, one_of, number_of, delta_of, dashes_of, text_of, name_range, word_range, word_of, cap_named, position_named};
+ghost use Rattle.style.specs.Get.{property_in, color_of, one_of, number_of, delta_of, dashes_of, text_of, word_of, cap_named, position_named};
 ghost use Rattle.style.specs.Style.{color_in, number_in, delta_in, dashes_in, text_in, cap_in, position_in, is_word_in};
 
-use crate::{LineCap, TextPosition};
+use crate::{LineCap, Row, TextPosition};
 use base::Range;
 use color::Color;
-use table::{Name, PropertyValue, Tables};
+use table::{Name, PropertyValue, property_value};
+use walk::names::find_name;
 
-// The property of a name in a row of property numbers.
-fn get(tables: &Tables, row: &[u32], name: &[u8]) -> Option<PropertyValue>
-    ensures { result ≡ property_in tables.now.bundle.now tables.now.properties.now tables.now.numbers.now row.now name.now }
-{
-    let i = walk::names::find_name(tables.bundle, tables.properties, row, name);
-    if i < row.len() {
-        let p = row[i] as usize;
-        return Some(table::property_value(tables.properties, tables.numbers, p));
+impl Row<'_, '_> {
+    // The property of a name.
+    fn get(self, name: &[u8]) -> Option<PropertyValue>
+        ensures { result ≡ property_in self.entry.tables.now.bundle.now self.entry.tables.now.properties.now self.entry.tables.now.numbers.now self.entry.numbers.now name.now }
+    {
+        let Row { tables, numbers } = self;
+        let i = find_name(tables.bundle, tables.properties, numbers, name)?;
+        let p = numbers[i] as usize;
+        Some(property_value(tables.properties, tables.numbers, p))
     }
-    None
-}
 
-pub fn get_color(tables: &Tables, row: &[u32], name: &[u8]) -> Option<Color>
-    ensures { result ≡ color_in tables.now.bundle.now tables.now.properties.now tables.now.numbers.now row.now name.now }
-{
-    color_of(tables.bundle, get(tables, row, name))
-}
+    pub fn color(self, name: &[u8]) -> Option<Color>
+        ensures { result ≡ color_in self.entry.tables.now.bundle.now self.entry.tables.now.properties.now self.entry.tables.now.numbers.now self.entry.numbers.now name.now }
+    {
+        color_of(self.tables.bundle, self.get(name))
+    }
 
-pub fn get_num(tables: &Tables, row: &[u32], name: &[u8]) -> Option<f64>
-    ensures { result ≡ number_in tables.now.bundle.now tables.now.properties.now tables.now.numbers.now row.now name.now }
-{
-    number_of(tables.numbers, get(tables, row, name))
-}
+    pub fn number(self, name: &[u8]) -> Option<f64>
+        ensures { result ≡ number_in self.entry.tables.now.bundle.now self.entry.tables.now.properties.now self.entry.tables.now.numbers.now self.entry.numbers.now name.now }
+    {
+        number_of(self.tables.numbers, self.get(name))
+    }
 
-pub fn get_delta(tables: &Tables, row: &[u32], name: &[u8]) -> Option<f64>
-    ensures { result ≡ delta_in tables.now.bundle.now tables.now.properties.now tables.now.numbers.now row.now name.now }
-{
-    delta_of(get(tables, row, name))
-}
+    pub fn delta(self, name: &[u8]) -> Option<f64>
+        ensures { result ≡ delta_in self.entry.tables.now.bundle.now self.entry.tables.now.properties.now self.entry.tables.now.numbers.now self.entry.numbers.now name.now }
+    {
+        delta_of(self.get(name))
+    }
 
-pub fn get_string(tables: &Tables, row: &[u32], name: &[u8]) -> Option<Name>
-    ensures { result ≡ text_in tables.now.bundle.now tables.now.properties.now tables.now.numbers.now row.now name.now }
-{
-    text_of(get(tables, row, name))
-}
+    pub fn text(self, name: &[u8]) -> Option<Name>
+        ensures { result ≡ text_in self.entry.tables.now.bundle.now self.entry.tables.now.properties.now self.entry.tables.now.numbers.now self.entry.numbers.now name.now }
+    {
+        text_of(self.get(name))
+    }
 
-pub fn get_line_cap(tables: &Tables, row: &[u32], name: &[u8]) -> Option<LineCap>
-    ensures { result ≡ cap_in tables.now.bundle.now tables.now.properties.now tables.now.numbers.now row.now name.now }
-{
-    cap_named(word_of(tables.bundle, get(tables, row, name)))
-}
+    pub fn line_cap(self, name: &[u8]) -> Option<LineCap>
+        ensures { result ≡ cap_in self.entry.tables.now.bundle.now self.entry.tables.now.properties.now self.entry.tables.now.numbers.now self.entry.numbers.now name.now }
+    {
+        cap_named(word_of(self.tables.bundle, self.get(name)))
+    }
 
-pub fn get_text_position(tables: &Tables, row: &[u32], name: &[u8]) -> Option<TextPosition>
-    ensures { result ≡ position_in tables.now.bundle.now tables.now.properties.now tables.now.numbers.now row.now name.now }
-{
-    position_named(word_of(tables.bundle, get(tables, row, name)))
-}
+    pub fn text_position(self, name: &[u8]) -> Option<TextPosition>
+        ensures { result ≡ position_in self.entry.tables.now.bundle.now self.entry.tables.now.properties.now self.entry.tables.now.numbers.now self.entry.numbers.now name.now }
+    {
+        position_named(word_of(self.tables.bundle, self.get(name)))
+    }
 
-pub fn get_dashes(tables: &Tables, row: &[u32], name: &[u8]) -> Option<Range>
-    ensures { result ≡ dashes_in tables.now.bundle.now tables.now.properties.now tables.now.numbers.now row.now name.now }
-{
-    dashes_of(get(tables, row, name))
-}
+    pub fn dashes(self, name: &[u8]) -> Option<Range>
+        ensures { result ≡ dashes_in self.entry.tables.now.bundle.now self.entry.tables.now.properties.now self.entry.tables.now.numbers.now self.entry.numbers.now name.now }
+    {
+        dashes_of(self.get(name))
+    }
 
-// Whether the property of a name is this identifier.
-pub fn is_word(tables: &Tables, row: &[u32], name: &[u8], word: &[u8]) -> bool
-    ensures { result ≡ is_word_in tables.now.bundle.now tables.now.properties.now tables.now.numbers.now row.now name.now word.now }
-{
-    base::same_bytes(word_of(tables.bundle, get(tables, row, name)), word)
-}
-
-#[tactic(auto, unfolding(crate::specs::Get::color_of))]
-fn color_of(bundle: &[u8], p: Option<PropertyValue>) -> Option<Color>
-    ensures { result ≡ color_of bundle.now p }
-{
-    match p? {
-        PropertyValue::Identifier(n) => name_color(bundle, n),
-        PropertyValue::Shade(c) => Some(c),
-        _ => None,
+    // Whether the property of a name is this identifier.
+    pub fn is_word(self, name: &[u8], word: &[u8]) -> bool
+        ensures { result ≡ is_word_in self.entry.tables.now.bundle.now self.entry.tables.now.properties.now self.entry.tables.now.numbers.now self.entry.numbers.now name.now word.now }
+    {
+        base::same_bytes(word_of(self.tables.bundle, self.get(name)), word)
     }
 }
 
 // No name with a colon is a colour's.
-fn name_color(bundle: &[u8], n: Name) -> Option<Color>
-    ensures { result ≡ name_color bundle.now n }
+#[tactic(auto, unfolding(crate::specs::Get::color_of, crate::specs::Get::name_color))]
+fn color_of(bundle: &[u8], p: Option<PropertyValue>) -> Option<Color>
+    ensures { result ≡ color_of bundle.now p }
 {
-    match n {
-        Name::Plain(a) => color::from_color_name(base::part(bundle, a)),
-        Name::Joined(_, _) => None,
+    match p? {
+        PropertyValue::Identifier(Name::Plain(a)) => color::from_color_name(base::part(bundle, a)),
+        PropertyValue::Shade(c) => Some(c),
+        _ => None,
     }
 }
 
@@ -155,10 +147,14 @@ fn text_of(p: Option<PropertyValue>) -> Option<Name>
 }
 
 // The bytes of an identifier of one part; no keyword has two.
+#[tactic(auto, unfolding(crate::specs::Get::word_range, crate::specs::Get::name_range))]
 fn word_of<'a>(bundle: &'a [u8], p: Option<PropertyValue>) -> &'a [u8]
     ensures { result.now ≡ word_of bundle.now p }
 {
-    base::part(bundle, word_range(p))
+    match p {
+        Some(PropertyValue::Identifier(Name::Plain(a))) => base::part(bundle, a),
+        _ => &[],
+    }
 }
 
 fn cap_named(word: &[u8]) -> Option<LineCap>
@@ -189,24 +185,4 @@ fn position_named(word: &[u8]) -> Option<TextPosition>
         return Some(TextPosition::Line);
     }
     None
-}
-
-// Where that identifier stands; an empty range for none.
-#[tactic(auto, unfolding(crate::specs::Get::word_range))]
-fn word_range(p: Option<PropertyValue>) -> Range
-    ensures { result ≡ word_range p }
-{
-    match p {
-        Some(PropertyValue::Identifier(n)) => name_range(n),
-        _ => Range { from: 0, to: 0 },
-    }
-}
-
-fn name_range(n: Name) -> Range
-    ensures { result ≡ name_range n }
-{
-    match n {
-        Name::Plain(a) => a,
-        Name::Joined(_, _) => Range { from: 0, to: 0 },
-    }
 }

@@ -6,12 +6,9 @@ ghost use Rattle.style.specs.Style.{default_z, casing_multiplier, width_or_zero,
 
 use base::Range;
 use color::Color;
-use get::{
-    get_color, get_dashes, get_delta, get_line_cap, get_num, get_string, get_text_position, is_word,
-};
 use table::{Name, Tables};
 
-pub mod get;
+mod get;
 
 #[derive(Clone, Copy)]
 pub enum StyleType {
@@ -32,6 +29,13 @@ pub enum TextPosition {
     Line,
 }
 
+// A row of property numbers, beside the tables that the properties are in.
+#[derive(Clone, Copy)]
+pub struct Row<'t, 'n> {
+    pub tables: &'t Tables<'t>,
+    pub numbers: &'n [u32],
+}
+
 // The arguments of a style call besides tables, counts, bundle, zoom and entities.
 #[derive(Clone, Copy)]
 pub struct Settings {
@@ -40,10 +44,10 @@ pub struct Settings {
     pub for_labels: bool,
 }
 
-// Without a text nothing else is there.
+// A text, and how it is drawn.
 #[derive(Clone, Copy)]
 pub struct TextStyle {
-    pub text: Option<Name>,
+    pub text: Name,
     pub text_color: Option<Color>,
     pub text_position: Option<TextPosition>,
     pub font_size: Option<f64>,
@@ -68,46 +72,87 @@ pub struct Style {
     pub casing_line_cap: Option<LineCap>,
     pub icon_image: Option<Name>,
     pub fill_image: Option<Name>,
-    pub text_style: TextStyle,
+    pub text_style: Option<TextStyle>,
 }
 
 // The style of a layer with the properties of a row, for an entity of a kind and with a tag `layer`; the default layer's width, or 0,
 // is the one that a casing falls back on. crates/shown restates the promise as the style of the theory.
 pub fn property_map_to_style(
-    tables: &Tables,
-    row: &[u32],
+    row: Row,
     kind: u8,
     layer: Option<i64>,
     default_width: f64,
     settings: Settings,
 ) -> Style
-    ensures { result ≡ style_at tables.now.bundle.now tables.now.properties.now tables.now.numbers.now row.now kind layer default_width settings }
+    ensures { result ≡ style_at row.entry.tables.now.bundle.now row.entry.tables.now.properties.now row.entry.tables.now.numbers.now row.entry.numbers.now kind layer default_width settings }
 {
-    let opacity = get_num(tables, row, b"opacity");
-    let fill_opacity = get_num(tables, row, b"fill-opacity");
-    let width = get_num(tables, row, b"width");
+    let opacity = row.number(b"opacity");
+    let fill_opacity = row.number(b"fill-opacity");
+    let width = row.number(b"width");
     let base = width.unwrap_or(default_width);
     let style_type = settings.style_type;
-    let casing = casing_width(tables, row, base, style_type);
+    let casing = row.casing_width(base, style_type);
     Style {
         layer,
-        z_index: z_index(tables, row, kind),
-        color: get_color(tables, row, b"color"),
-        fill_color: get_color(tables, row, b"fill-color"),
-        is_foreground_fill: is_foreground_fill(tables, row),
-        background_color: get_color(tables, row, b"background-color"),
+        z_index: row.z_index(kind),
+        color: row.color(b"color"),
+        fill_color: row.color(b"fill-color"),
+        is_foreground_fill: row.is_foreground_fill(),
+        background_color: row.color(b"background-color"),
         opacity,
         fill_opacity,
         width,
-        dashes: get_dashes(tables, row, b"dashes"),
-        line_cap: get_line_cap(tables, row, b"linecap"),
-        casing_color: get_color(tables, row, b"casing-color"),
+        dashes: row.dashes(b"dashes"),
+        line_cap: row.line_cap(b"linecap"),
+        casing_color: row.color(b"casing-color"),
         casing_width: casing,
-        casing_dashes: get_dashes(tables, row, b"casing-dashes"),
-        casing_line_cap: get_line_cap(tables, row, b"casing-linecap"),
-        icon_image: get_string(tables, row, b"icon-image"),
-        fill_image: get_string(tables, row, b"fill-image"),
-        text_style: text_style(tables, row, settings),
+        casing_dashes: row.dashes(b"casing-dashes"),
+        casing_line_cap: row.line_cap(b"casing-linecap"),
+        icon_image: row.text(b"icon-image"),
+        fill_image: row.text(b"fill-image"),
+        text_style: row.text_style(settings),
+    }
+}
+
+impl Row<'_, '_> {
+    // The full casing width.
+    fn casing_width(self, base: f64, style_type: StyleType) -> Option<f64>
+        ensures { result ≡ casing_width self.entry.tables.now.bundle.now self.entry.tables.now.properties.now self.entry.tables.now.numbers.now self.entry.numbers.now base style_type }
+    {
+        let one = self.number(b"casing-width");
+        let delta = self.delta(b"casing-width");
+        full_casing(
+            casing_multiplier(style_type),
+            base,
+            casing_only(base, one, delta),
+        )
+    }
+
+    // The z-index of a layer, for an entity of a kind.
+    pub fn z_index(self, kind: u8) -> f64
+        ensures { result ≡ z_index_in self.entry.tables.now.bundle.now self.entry.tables.now.properties.now self.entry.tables.now.numbers.now self.entry.numbers.now kind }
+    {
+        self.number(b"z-index").unwrap_or(default_z_index(kind))
+    }
+
+    // Whether a layer's fill is drawn in the foreground.
+    pub fn is_foreground_fill(self) -> bool
+        ensures { result ≡ foreground_in self.entry.tables.now.bundle.now self.entry.tables.now.properties.now self.entry.tables.now.numbers.now self.entry.numbers.now }
+    {
+        !self.is_word(b"fill-position", b"background")
+    }
+
+    #[tactic(auto, unfolding(crate::specs::Style::text_style_of))]
+    fn text_style(self, settings: Settings) -> Option<TextStyle>
+        ensures { result ≡ text_style_in self.entry.tables.now.bundle.now self.entry.tables.now.properties.now self.entry.tables.now.numbers.now self.entry.numbers.now settings }
+    {
+        let text = self.text(b"text")?;
+        Some(TextStyle {
+            text,
+            text_color: self.color(b"text-color"),
+            text_position: self.text_position(b"text-position"),
+            font_size: font_size(self.number(b"font-size"), settings),
+        })
     }
 }
 
@@ -116,19 +161,6 @@ pub fn width_or_zero(width: Option<f64>) -> f64
     ensures { result ≡ width_or_zero width }
 {
     width.unwrap_or(0.0)
-}
-
-// The full casing width.
-fn casing_width(tables: &Tables, row: &[u32], base: f64, style_type: StyleType) -> Option<f64>
-    ensures { result ≡ casing_width tables.now.bundle.now tables.now.properties.now tables.now.numbers.now row.now base style_type }
-{
-    let one = get_num(tables, row, b"casing-width");
-    let delta = get_delta(tables, row, b"casing-width");
-    full_casing(
-        casing_multiplier(style_type),
-        base,
-        casing_only(base, one, delta),
-    )
 }
 
 fn casing_multiplier(style_type: StyleType) -> f64
@@ -155,13 +187,6 @@ fn full_casing(multiplier: f64, base: f64, m: Option<f64>) -> Option<f64>
     m.map(|w| base + multiplier * w)
 }
 
-// The z-index of a layer, for an entity of a kind.
-pub fn z_index(tables: &Tables, row: &[u32], kind: u8) -> f64
-    ensures { result ≡ z_index_in tables.now.bundle.now tables.now.properties.now tables.now.numbers.now row.now kind }
-{
-    get_num(tables, row, b"z-index").unwrap_or(default_z_index(kind))
-}
-
 fn default_z_index(kind: u8) -> f64
     ensures { result ≡ default_z kind }
 {
@@ -169,35 +194,6 @@ fn default_z_index(kind: u8) -> f64
         0 => 4.0,
         2 => 1.0,
         _ => 3.0,
-    }
-}
-
-// Whether a layer's fill is drawn in the foreground.
-pub fn is_foreground_fill(tables: &Tables, row: &[u32]) -> bool
-    ensures { result ≡ foreground_in tables.now.bundle.now tables.now.properties.now tables.now.numbers.now row.now }
-{
-    !is_word(tables, row, b"fill-position", b"background")
-}
-
-fn text_style(tables: &Tables, row: &[u32], settings: Settings) -> TextStyle
-    ensures { result ≡ text_style_in tables.now.bundle.now tables.now.properties.now tables.now.numbers.now row.now settings }
-{
-    match get_string(tables, row, b"text") {
-        None => TextStyle {
-            text: None,
-            text_color: None,
-            text_position: None,
-            font_size: None,
-        },
-        Some(t) => {
-            let size = font_size(get_num(tables, row, b"font-size"), settings);
-            TextStyle {
-                text: Some(t),
-                text_color: get_color(tables, row, b"text-color"),
-                text_position: get_text_position(tables, row, b"text-position"),
-                font_size: size,
-            }
-        }
     }
 }
 

@@ -5,9 +5,10 @@ use mathlib.Core.List.{List, [], ◌∷◌, ◌++◌, map, append_assoc, append-
 use native.Mathlib.Nat.{suc-mul}
 use native.Mathlib.Numerals.{add-one}
 use native.Mathlib.Omega.{arith}
-use lib.ListN.{get_or, length, set, take, drop, replicate, length-append, length-take, length-drop, take-append-drop, drop_of_length-le}
+use lib.ListN.{get_or, length, set, take, drop, replicate, length-append, length-take, length-drop, drop_of_length-le}
 use lib.Seq.{set_at, take-suc, drop-cons, drop-drop}
 use Rattle.base.specs.Table.{padded, stored, flat}
+use Rattle.base.proofs.Tables.{stored_append, stored_at}
 
 module _ {A : Type 0} where
   drop_replicate : (i n : ℕ) (z : A) → drop i (replicate n z) ≡ replicate (n - i) z
@@ -25,17 +26,11 @@ module _ {A : Type 0} where
       ap (λ (k : ℕ). take k (x ∷ all)) e
       ∙ ap (λ (r : List A). x ∷ r) (take_min n all)
 
-  -- the first 32 at most are all that is taken of 32
-  pub take_most : (n : ℕ) (all : List A) → length all ≡ 32 → take (min n 32) all ≡ take n all
-  take_most n all e = ap (λ (k : ℕ). take (min n k) all) (sym e) ∙ take_min n all
-
-  pub stored_append :
-      (t : List A) (i : ℕ) (xs ys : List A)
-      → stored t i (xs ++ ys) ≡ stored (stored t i xs) (i + length xs) ys
-  stored_append t i [] ys = ap (λ (j : ℕ). stored t j ys) (omega arith)
-  stored_append t i (x ∷ xs) ys =
-      stored_append (set t i x) (i + 1) xs ys
-      ∙ ap (λ (j : ℕ). stored (stored (set t i x) (i + 1) xs) j ys) (omega arith)
+  -- as many as there are, and 32 at most
+  pub take_most : (all : List A) → take (min (length all) 32) all ≡ take 32 all
+  take_most all =
+      let e : min (length all) 32 ≡ min 32 (length all) = omega arith in
+      ap (λ (k : ℕ). take k all) e ∙ take_min 32 all
 
   -- a list stored, and the rest behind it
   pub put_all :
@@ -50,34 +45,6 @@ module _ {A : Type 0} where
       ∙ ap (λ (j : ℕ). stored u j ys) (f ∙ ap (λ (m : ℕ). i + m) (sym l))
       ∙ ap (λ (u : List A). stored u (i + length xs) ys) e
       ∙ sym (stored_append t i xs ys)
-
-  stored_at :
-      (p q : List A) (i : ℕ) (vs : List A)
-      → length p ≡ i
-      → length vs ≤ length q
-      → stored (p ++ q) i vs ≡ p ++ (vs ++ drop (length vs) q)
-  stored_at p q i [] e h = refl
-  stored_at p [] i (v ∷ vs) e h = absurd (omega arith)
-  stored_at p (y ∷ q) i (v ∷ vs) e h =
-      let l : length (p ++ (v ∷ [])) ≡ i + 1 = length-append p (v ∷ []) ∙ omega arith in
-      ap (λ (t : List A). stored t (i + 1) vs) (set_at p y q v i e ∙ sym (append_assoc p (v ∷ []) q))
-      ∙ stored_at (p ++ (v ∷ [])) q (i + 1) vs l (omega arith)
-      ∙ append_assoc p (v ∷ []) (vs ++ drop (length vs) q)
-
-  -- a part of the list overwritten is its elements stored
-  pub part_stored :
-      (t xs : List A) {us : List A} (at : ℕ)
-      → at + length xs ≤ length t
-      → us ≡ xs
-      → take at t ++ (us ++ drop (at + length xs - at) (drop at t)) ≡ stored t at xs
-  part_stored t xs at h e =
-      let n : at + length xs - at ≡ length xs = omega arith in
-      let l : length (take at t) ≡ at = length-take at t ∙ omega arith in
-      let q : length xs ≤ length (drop at t) = omega (arith, length-drop at t) in
-      ap (λ (us : List A). take at t ++ (us ++ drop (at + length xs - at) (drop at t))) e
-      ∙ ap (λ (k : ℕ). take at t ++ (xs ++ drop k (drop at t))) n
-      ∙ sym (stored_at (take at t) (drop at t) at xs l q)
-      ∙ ap (λ (t : List A). stored t at xs) (take-append-drop at t)
 
   -- as many elements as the list has
   pub all_stored : (t xs : List A) → length t ≡ length xs → stored t 0 xs ≡ xs

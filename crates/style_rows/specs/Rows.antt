@@ -5,6 +5,7 @@ use Rattle.table.specs.declared.Name.TheVariants.{Plain, Joined}
 use Rattle.style.specs.declared.LineCap.{LineCap}
 use Rattle.style.specs.declared.LineCap.TheVariants.{Butt, Round, Square}
 use Rattle.style.specs.declared.TextPosition.{TextPosition}
+use Rattle.style.specs.declared.TextStyle.{TextStyle}
 use Rattle.style.specs.declared.TextPosition.TheVariants.{Center, Line}
 use Rattle.styles.specs.declared.StyledLayer.{StyledLayer}
 use Rattle.color.specs.declared.Color.{Color}
@@ -59,6 +60,23 @@ text_numbers None = 0 ∷ 0 ∷ 0 ∷ 0 ∷ 0 ∷ []
 text_numbers (Some (Plain a)) = 1 ∷ a.from ∷ a.to ∷ 0 ∷ 0 ∷ []
 text_numbers (Some (Joined a b)) = 2 ∷ a.from ∷ a.to ∷ b.from ∷ b.to ∷ []
 
+-- the text and what belongs to it, where there is one
+abbrev pub text : Option TextStyle → Option Name
+text None = None
+text (Some t) = Some t.text
+
+abbrev pub text_color : Option TextStyle → Option Color
+text_color None = None
+text_color (Some t) = t.text_color
+
+abbrev pub text_position : Option TextStyle → Option TextPosition
+text_position None = None
+text_position (Some t) = t.text_position
+
+abbrev pub font_size : Option TextStyle → Option Float
+font_size None = None
+font_size (Some t) = t.font_size
+
 unfoldable pub scalars : StyledLayer → List ℕ
 scalars x =
     let s = x.style in
@@ -69,10 +87,10 @@ scalars x =
     ∷ has_number s.fill_opacity
     ∷ has_number s.width
     ∷ has_number s.casing_width
-    ∷ has_number s.text_style.font_size
+    ∷ has_number (font_size s.text_style)
     ∷ cap_number s.line_cap
     ∷ cap_number s.casing_line_cap
-    ∷ position_number s.text_style.text_position
+    ∷ position_number (text_position s.text_style)
     ∷ []
 
 abbrev pub row_words : StyledLayer → List ℕ
@@ -83,10 +101,10 @@ row_words x =
     ++ (color_numbers s.fill_color
     ++ (color_numbers s.background_color
     ++ (color_numbers s.casing_color
-    ++ (color_numbers s.text_style.text_color
+    ++ (color_numbers (text_color s.text_style)
     ++ (dash_numbers s.dashes
     ++ (dash_numbers s.casing_dashes
-    ++ (text_numbers s.icon_image ++ (text_numbers s.fill_image ++ text_numbers s.text_style.text)))))))))
+    ++ (text_numbers s.icon_image ++ (text_numbers s.fill_image ++ text_numbers (text s.text_style))))))))))
 
 unfoldable pub row_floats : StyledLayer → List Float
 row_floats x =
@@ -96,7 +114,7 @@ row_floats x =
     ∷ float_number s.fill_opacity
     ∷ float_number s.width
     ∷ float_number s.casing_width
-    ∷ float_number s.text_style.font_size
+    ∷ float_number (font_size s.text_style)
     ∷ []
 
 abbrev pub row_layer : StyledLayer → ℤ

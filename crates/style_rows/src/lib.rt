@@ -1,45 +1,36 @@
 // A styled layer in numbers, into lent tables of 32 rows.
 #![tactic(auto)]
 
-ghost use Rattle.std.specs.Prelude.{◌≡◌, map, ◌+◌, ◌≤◌, pos, length, take};
-ghost use Rattle.base.specs.Table.{zero_float, padded, stored, flat};
-ghost use Rattle.style_rows.specs.Rows.{flag, has_number, float_number, cap_number, position_number, layer_number, has_layer, color_numbers, dash_numbers, text_numbers, scalars, row_words, row_floats, row_layer};
+ghost use Rattle.std.specs.Prelude.{◌≡◌, map, pos, take};
+ghost use Rattle.base.specs.Table.{zero_float, padded, flat};
+ghost use Rattle.style_rows.specs.Rows.{flag, has_number, float_number, cap_number, position_number, layer_number, has_layer, color_numbers, dash_numbers, text_numbers, text, text_color, text_position, font_size, scalars, row_words, row_floats, row_layer};
 
-use base::Range;
+use base::{Range, store_all};
 use color::Color;
-use style::{LineCap, TextPosition};
+use style::{LineCap, TextPosition, TextStyle};
 use styles::StyledLayer;
 use table::Name;
 
-// Stores the rows of the first n layers, 32 at most, and zeros behind them.
+// Stores the rows of styled layers, 32 at most, and zeros behind them.
 pub fn store_layers(
-    all: [StyledLayer; 32],
-    n: usize,
+    styled: &[StyledLayer],
     words: &mut [u64; 1664],
     floats: &mut [f64; 192],
     layers: &mut [i64; 32],
 )
-    ensures words_after { words.new ≡ padded 0 1664 (flat (map row_words (take n all))) }
-    ensures floats_after { floats.new ≡ padded zero_float 192 (flat (map row_floats (take n all))) }
-    ensures layers_after { layers.new ≡ padded (pos 0) 32 (map row_layer (take n all)) }
+    ensures words_after { words.new ≡ padded 0 1664 (flat (map row_words (take 32 styled.now))) }
+    ensures floats_after { floats.new ≡ padded zero_float 192 (flat (map row_floats (take 32 styled.now))) }
+    ensures layers_after { layers.new ≡ padded (pos 0) 32 (map row_layer (take 32 styled.now)) }
 {
     words.fill(0);
     floats.fill(0.0);
     layers.fill(0);
-    for k in 0..n.min(32) {
-        let x = all[k];
-        put(&mut words[..], k * 52, &row_words(x)[..]);
-        put(&mut floats[..], k * 6, &row_floats(x)[..]);
+    for k in 0..styled.len().min(32) {
+        let x = styled[k];
+        store_all(&mut words[..], k * 52, &row_words(x)[..]);
+        store_all(&mut floats[..], k * 6, &row_floats(x)[..]);
         layers[k] = layer_number(x.style.layer);
     }
-}
-
-// Stores elements one after another, from a place on.
-fn put<T: Copy>(t: &mut [T], at: usize, xs: &[T])
-    requires { at + length xs.now ≤ length t.old }
-    ensures { t.new ≡ stored t.old at xs.now }
-{
-    t[at..at + xs.len()].copy_from_slice(xs);
 }
 
 fn layer_number(tag: Option<i64>) -> i64
@@ -86,24 +77,51 @@ fn position_number(p: Option<TextPosition>) -> u64
     p.map_or(0, |position| position as u64)
 }
 
+fn text(t: Option<TextStyle>) -> Option<Name>
+    ensures { result ≡ text t }
+{
+    Some(t?.text)
+}
+
+fn text_color(t: Option<TextStyle>) -> Option<Color>
+    ensures { result ≡ text_color t }
+{
+    t?.text_color
+}
+
+fn text_position(t: Option<TextStyle>) -> Option<TextPosition>
+    ensures { result ≡ text_position t }
+{
+    t?.text_position
+}
+
+fn font_size(t: Option<TextStyle>) -> Option<f64>
+    ensures { result ≡ font_size t }
+{
+    t?.font_size
+}
+
 // The 52 words of a row.
 fn row_words(x: StyledLayer) -> [u64; 52]
     ensures { result ≡ row_words x }
 {
     let s = x.style;
-    let text_style = s.text_style;
     let mut row = [0u64; 52];
-    put(&mut row[..], 0, &scalars(x)[..]);
-    put(&mut row[..], 11, &color_numbers(s.color)[..]);
-    put(&mut row[..], 15, &color_numbers(s.fill_color)[..]);
-    put(&mut row[..], 19, &color_numbers(s.background_color)[..]);
-    put(&mut row[..], 23, &color_numbers(s.casing_color)[..]);
-    put(&mut row[..], 27, &color_numbers(text_style.text_color)[..]);
-    put(&mut row[..], 31, &dash_numbers(s.dashes)[..]);
-    put(&mut row[..], 34, &dash_numbers(s.casing_dashes)[..]);
-    put(&mut row[..], 37, &text_numbers(s.icon_image)[..]);
-    put(&mut row[..], 42, &text_numbers(s.fill_image)[..]);
-    put(&mut row[..], 47, &text_numbers(text_style.text)[..]);
+    store_all(&mut row[..], 0, &scalars(x)[..]);
+    store_all(&mut row[..], 11, &color_numbers(s.color)[..]);
+    store_all(&mut row[..], 15, &color_numbers(s.fill_color)[..]);
+    store_all(&mut row[..], 19, &color_numbers(s.background_color)[..]);
+    store_all(&mut row[..], 23, &color_numbers(s.casing_color)[..]);
+    store_all(
+        &mut row[..],
+        27,
+        &color_numbers(text_color(s.text_style))[..],
+    );
+    store_all(&mut row[..], 31, &dash_numbers(s.dashes)[..]);
+    store_all(&mut row[..], 34, &dash_numbers(s.casing_dashes)[..]);
+    store_all(&mut row[..], 37, &text_numbers(s.icon_image)[..]);
+    store_all(&mut row[..], 42, &text_numbers(s.fill_image)[..]);
+    store_all(&mut row[..], 47, &text_numbers(text(s.text_style))[..]);
     row
 }
 
@@ -112,7 +130,6 @@ fn scalars(x: StyledLayer) -> [u64; 11]
     ensures { result ≡ scalars x }
 {
     let s = x.style;
-    let text_style = s.text_style;
     [
         x.selector as u64,
         has_layer(s.layer),
@@ -121,10 +138,10 @@ fn scalars(x: StyledLayer) -> [u64; 11]
         has_number(s.fill_opacity),
         has_number(s.width),
         has_number(s.casing_width),
-        has_number(text_style.font_size),
+        has_number(font_size(s.text_style)),
         cap_number(s.line_cap),
         cap_number(s.casing_line_cap),
-        position_number(text_style.text_position),
+        position_number(text_position(s.text_style)),
     ]
 }
 
@@ -167,13 +184,12 @@ fn row_floats(x: StyledLayer) -> [f64; 6]
     ensures { result ≡ row_floats x }
 {
     let s = x.style;
-    let text_style = s.text_style;
     [
         s.z_index,
         float_number(s.opacity),
         float_number(s.fill_opacity),
         float_number(s.width),
         float_number(s.casing_width),
-        float_number(text_style.font_size),
+        float_number(font_size(s.text_style)),
     ]
 }

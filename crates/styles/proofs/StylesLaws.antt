@@ -1,5 +1,5 @@
 -- Laws of styles, one for each way through the code, over plain lists and numbers.
-use Prim.Native.Nat.{ℕ, zero, suc, ◌+◌, ◌-◌, ◌*◌, ◌≤◌, ◌<◌}
+use Prim.Native.Nat.{ℕ, zero, suc, ◌+◌, ◌*◌, ◌≤◌, ◌<◌}
 use native.Mathlib.Omega.{arith}
 use native.Mathlib.Numerals.{add-one}
 use mathlib.Core.Path.{◌≡◌, refl, sym, ◌∙◌, ap, ap₂}
@@ -8,16 +8,14 @@ use mathlib.Core.List.{List, [], ◌∷◌, ◌++◌, map, append-nil}
 use mathlib.Core.Option.{none, some}
 use lib.Ieee.{Float, of_bits, of_int}
 use lib.Dec.{ltb}
-use lib.ListN.{length, take, drop, get_or, set, replicate, length-append, drop_of_length-le}
-use lib.Seq.{take-nil}
+use lib.ListN.{length, get_or, set, replicate, length-append}
 use borrow.Author.Tests.{lt-ltb, le-ltb, not-true, not-false}
-use Rattle.base.specs.Bytes.{Bytes, ascii, same, within, between}
+use Rattle.base.specs.Bytes.{Bytes, ascii, same, within}
 use Rattle.base.specs.Choice.{pick, via, via_with, if_true, if_false}
 use Rattle.base.specs.Refusal.{refusal}
 use Rattle.base.specs.Table.{zero_float, padded}
 use Rattle.base.specs.declared.Range.{Range}
 use Rattle.base.specs.declared.refusal.Refusal.{Refusal}
-use Rattle.base.proofs.Compare.{between_past, rest_all}
 use Rattle.base.proofs.Tables.{padded_none, padded_set}
 use Rattle.group.specs.Pair.{pairs_at}
 use Rattle.entity.specs.Layout.{single_of, value_of}
@@ -39,7 +37,7 @@ use Rattle.walk.specs.Selectors.{layer_in}
 use Rattle.style.specs.Style.{number_in, width_or_zero, style_at}
 use Rattle.style.specs.declared.Settings.{Settings}
 use Rattle.style.specs.declared.Style.{Style}
-use Rattle.styles.specs.Styles.{blank_layer, no_styles, named_by, default_width, layer_styled, filled_layers, styles_from, walked_styles, styles_of}
+use Rattle.styles.specs.Styles.{blank_layer, named_by, default_width, layer_styled, filled_layers, styles_from, walked_styles, styles_of}
 use Rattle.styles.specs.declared.EntityStyles.{EntityStyles}
 use Rattle.styles.specs.declared.StyledLayer.{StyledLayer}
 use Rattle.std.specs.Prelude.{Option, None, Result, Ok, Err, ℤ, Some}
@@ -71,21 +69,6 @@ module _ (s : Bytes) (e : EntityRange) (v : Option Range) (i : v ≡ value_in s 
       → l ≡ layer_told (layer_tag (value_of s e))
   unfolding and_map on_option
   layer_there r q t w l z = z ∙ ap (λ x. layer_told (as_integer x)) w ∙ layer_of_lem (Some r) q
-
--- ---- a row of a table of maps
-
-module _ (t : List ℕ) (i : ℕ) (l : length t ≡ 4323) where
-  pub row_past : 32 < i → [] ≡ numbers_at t i
-  row_past h = let past : length t ≤ i * 131 + 2 = omega arith in rw (drop_of_length-le t past, take-nil)
-
-  module _ (count : ℕ) (e : count ≡ get_or t (i * 131 + 1) 0) where
-    pub row_here : between (i * 131 + 2) (i * 131 + 2 + count) t ≡ numbers_at t i
-    row_here =
-        let more : i * 131 + 2 + count - (i * 131 + 2) ≡ count = omega arith in
-        ap (λ k. take k (drop (i * 131 + 2) t)) (more ∙ e)
-
-    pub row_rest : 4323 - (i * 131 + 2) < count → between (i * 131 + 2) (length t) t ≡ numbers_at t i
-    row_rest h = rest_all t (i * 131 + 2) ∙ sym (between_past (i * 131 + 2) (i * 131 + 2 + count) t (omega arith)) ∙ row_here
 
 -- ---- the width of the default layer
 
@@ -182,19 +165,17 @@ module _ (bundle : Bytes) (selectors properties : List ℕ) (numbers : List Floa
   abbrev pub StyledTo : ℕ → ℕ → List StyledLayer → Type 0
   StyledTo = Filled styled_by (layer_styled bundle selectors properties numbers t n kind layer settings)
 
-  module _ (i count : ℕ) (ls : List StyledLayer) (filled : StyledTo i count ls) (s : ℕ) (e : s ≡ get_or t (i * 131) 0) (b : Bool)
-      (q : b ≡ same star (layer_in bundle selectors s)) where
-    styled_is : (x : Bool) → b ≡ x → styled_by i ≡ not x
-    styled_is x y = ap not (ap (λ k. same star (layer_in bundle selectors k)) (sym e) ∙ via q y)
-
+  module _ (i count : ℕ) (ls : List StyledLayer) (filled : StyledTo i count ls) (b : Bool) (q : b ≡ styled_by i) where
     -- `*` gets no style
-    pub star_next : b ≡ true → StyledTo (i + 1) count ls
-    star_next y = filled_left _ _ i count ls filled (styled_is true y)
+    pub star_next : b ≡ false → StyledTo (i + 1) count ls
+    star_next y = filled_left _ _ i count ls filled (via q y)
 
     -- any other layer gets one
     pub layer_next :
-        b ≡ false
+        b ≡ true
         → count < 32
+        → (s : ℕ)
+        → s ≡ get_or t (i * 131) 0
         → (w : Float)
         → w ≡ default_width bundle selectors properties numbers t n
         → (row : List ℕ)
@@ -202,8 +183,8 @@ module _ (bundle : Bytes) (selectors properties : List ℕ) (numbers : List Floa
         → (x : Style)
         → x ≡ style_at bundle properties numbers row kind layer w settings
         → StyledTo (i + 1) (count + 1) (set ls count (record { selector = s; style = x }))
-    layer_next y h w d row r x z =
-        filled_more _ _ i count ls filled (styled_is false y) h _
+    layer_next y h s e w d row r x z =
+        filled_more _ _ i count ls filled (via q y) h _
         (ap₂ (λ (s : ℕ) (x : Style). record { selector = s; style = x }) e
         (z ∙ ap₂ (λ v l. style_at bundle properties numbers l kind layer v settings) d r))
 
@@ -211,61 +192,62 @@ module _ (bundle : Bytes) (selectors properties : List ℕ) (numbers : List Floa
       (i count : ℕ) (ls : List StyledLayer)
       → i ≡ n
       → StyledTo i count ls
-      → (record { answer = Ok count; layers = ls }) ≡ filled_layers bundle selectors properties numbers t n kind layer settings
+      → (record { layers = ls; count = count }) ≡ filled_layers bundle selectors properties numbers t n kind layer settings
   unfolding filled_layers
   filled_all i count ls e f =
-      ap₂ (λ k l. record { answer = Ok k; layers = l }) (sym f.counted) f.is
+      ap₂ (λ k l. record { layers = l; count = k }) (sym f.counted) f.is
       ∙ ap
       (λ (j : ℕ).
       let l = styled_of styled_by (layer_styled bundle selectors properties numbers t n kind layer settings) j in
-      record { answer = Ok (length l); layers = padded blank_layer 32 l }) e
+      record { layers = padded blank_layer 32 l; count = length l }) e
 
 -- ---- the whole
 
 module _ (bundle rules selectors tests properties : List ℕ) (numbers : List Float) (total zoom : ℕ) (settings : Settings) (entity : Bytes)
     (e : EntityRange) (a : Result ℕ Refusal) (t : List ℕ)
-    (w : (a, t) ≡ walk_of bundle rules selectors tests properties numbers total zoom entity e false 0) (x : EntityStyles) where
+    (w : (a, t) ≡ walk_of bundle rules selectors tests properties numbers total zoom entity e false 0) where
   abbrev tagged : Option ℤ
   tagged = layer_told (layer_tag (value_of entity e))
 
-  abbrev walked : EntityStyles
+  abbrev walked : Result EntityStyles Refusal
   walked = walked_styles bundle rules selectors tests properties numbers total zoom settings entity e
 
-  pub walked_refused : (r : Refusal) → a ≡ Err r → x ≡ no_styles r → x ≡ walked
+  pub walked_refused : (r : Refusal) → a ≡ Err r → Err r ≡ walked
   unfolding styles_from
-  walked_refused r q z = z ∙ sym (ap (styles_from bundle selectors properties numbers e.kind tagged settings) (via_with w q))
+  walked_refused r q = sym (ap (styles_from bundle selectors properties numbers e.kind tagged settings) (via_with w q))
 
   pub walked_filled :
       (n : ℕ)
       → a ≡ Ok n
       → (l : Option ℤ)
       → l ≡ tagged
+      → (x : EntityStyles)
       → x ≡ filled_layers bundle selectors properties numbers t n e.kind l settings
-      → x ≡ walked
+      → Ok x ≡ walked
   unfolding styles_from
-  walked_filled n q l y z =
-      z
-      ∙ ap (λ l. filled_layers bundle selectors properties numbers t n e.kind l settings) y
+  walked_filled n q l y x z =
+      ap (λ (x : EntityStyles). Ok x) (z ∙ ap (λ l. filled_layers bundle selectors properties numbers t n e.kind l settings) y)
       ∙ sym (ap (styles_from bundle selectors properties numbers e.kind tagged settings) (via_with w q))
 
 module _ (bundle rules selectors tests properties : List ℕ) (numbers : List Float) (n : Counts) (zoom : ℕ) (settings : Settings)
-    (entity : Bytes) (b : Bool) (i : b ≡ tables_sound rules selectors tests properties numbers n (length bundle)) (x : EntityStyles) where
-  abbrev styled : EntityStyles
+    (entity : Bytes) (b : Bool) (i : b ≡ tables_sound rules selectors tests properties numbers n (length bundle)) where
+  abbrev styled : Result EntityStyles Refusal
   styled = styles_of bundle rules selectors tests properties numbers n zoom settings entity
 
-  pub styles_broken : not b ≡ true → (r : Refusal) → r ≡ refusal 22 0 0 0 0 → x ≡ no_styles r → x ≡ styled
+  pub styles_broken : not b ≡ true → (r : Refusal) → r ≡ refusal 22 0 0 0 0 → Err r ≡ styled
   unfolding styles_of
-  styles_broken y r w z = if_false _ _ _ (via i (not-true b y)) (z ∙ ap no_styles w)
+  styles_broken y r w = if_false _ _ _ (via i (not-true b y)) (ap (λ (r : Refusal). Err r) w)
 
   module _ (y : not b ≡ false) (q : Result EntityRange Refusal) (j : q ≡ single_of entity) where
-    pub styles_bad : (r : Refusal) → q ≡ Err r → x ≡ no_styles r → x ≡ styled
+    pub styles_bad : (r : Refusal) → q ≡ Err r → Err r ≡ styled
     unfolding styles_of
-    styles_bad r w z = if_true _ _ _ (via i (not-false b y)) (result_err _ _ _ (via j w) z)
+    styles_bad r w = if_true _ _ _ (via i (not-false b y)) (result_err _ _ _ (via j w) refl)
 
     pub styles_walked :
         (e : EntityRange)
         → q ≡ Ok e
+        → (x : Result EntityStyles Refusal)
         → x ≡ walked_styles bundle rules selectors tests properties numbers n.rules zoom settings entity e
         → x ≡ styled
     unfolding styles_of
-    styles_walked e w z = if_true _ _ _ (via i (not-false b y)) (result_ok _ _ _ (via j w) z)
+    styles_walked e w x z = if_true _ _ _ (via i (not-false b y)) (result_ok _ _ _ (via j w) z)

@@ -1,6 +1,6 @@
 -- The styles of one entity, from tables, a bundle and bytes that may be anything: refusals 22, 7, 2, those of the walk, then a
 -- style for each layer but `*`.
-use Rattle.std.specs.Prelude.{ℕ, ◌*◌, false, not, List, map, ltb, Float, get_or, length, replicate, Option, None, Result, Ok, Err, ℤ}
+use Rattle.std.specs.Prelude.{ℕ, ◌*◌, false, not, List, map, ltb, Float, get_or, length, Option, None, Result, Ok, Err, ℤ}
 use Rattle.base.specs.Bytes.{Bytes, ascii, same}
 use Rattle.base.specs.Choice.{pick}
 use Rattle.base.specs.Refusal.{refusal}
@@ -49,13 +49,9 @@ blank_layer =
             casing_line_cap = None;
             icon_image = None;
             fill_image = None;
-            text_style =
-                record { text = None; text_color = None; text_position = None; font_size = None };
+            text_style = None;
           };
     }
-
-unfoldable pub no_styles : Refusal → EntityStyles
-no_styles e = record { answer = Err e; layers = replicate 32 blank_layer }
 
 module _ (bundle : Bytes) (selectors : List ℕ) where
   -- the selector that named layer i of a table of maps
@@ -86,23 +82,24 @@ module _ (bundle : Bytes) (selectors : List ℕ) where
     unfoldable pub filled_layers : List ℕ → ℕ → ℕ → Option ℤ → Settings → EntityStyles
     filled_layers t n kind layer s =
         let ls = layers_styled t n kind layer s in
-        record { answer = Ok (length ls); layers = padded blank_layer 32 ls }
+        record { layers = padded blank_layer 32 ls; count = length ls }
 
     -- what a walk's answer becomes, for an entity of a kind with a tag `layer`
-    unfoldable pub styles_from : ℕ → Option ℤ → Settings → Result ℕ Refusal × List ℕ → EntityStyles
-    styles_from kind layer s (Err e, t) = no_styles e
-    styles_from kind layer s (Ok n, t) = filled_layers t n kind layer s
+    unfoldable pub styles_from : ℕ → Option ℤ → Settings → Result ℕ Refusal × List ℕ → Result EntityStyles Refusal
+    styles_from kind layer s (Err e, t) = Err e
+    styles_from kind layer s (Ok n, t) = Ok (filled_layers t n kind layer s)
 
 -- the entity is read, the tables are sound
 abbrev pub walked_styles :
-    Bytes → List ℕ → List ℕ → List ℕ → List ℕ → List Float → ℕ → ℕ → Settings → Bytes → EntityRange → EntityStyles
+    Bytes → List ℕ → List ℕ → List ℕ → List ℕ → List Float → ℕ → ℕ → Settings → Bytes → EntityRange → Result EntityStyles Refusal
 walked_styles bundle rules selectors tests properties numbers total zoom s entity e =
     styles_from bundle selectors properties numbers e.kind (layer_told (layer_tag (value_of entity e))) s
     (walk_of bundle rules selectors tests properties numbers total zoom entity e false 0)
 
-unfoldable pub styles_of : Bytes → List ℕ → List ℕ → List ℕ → List ℕ → List Float → Counts → ℕ → Settings → Bytes → EntityStyles
+unfoldable pub styles_of :
+    Bytes → List ℕ → List ℕ → List ℕ → List ℕ → List Float → Counts → ℕ → Settings → Bytes → Result EntityStyles Refusal
 styles_of bundle rules selectors tests properties numbers n zoom s entity =
     pick (tables_sound rules selectors tests properties numbers n (length bundle))
-    (on_result (single_of entity) no_styles λ e.
+    (on_result (single_of entity) (λ r. Err r) λ e.
     walked_styles bundle rules selectors tests properties numbers n.rules zoom s entity e)
-    (no_styles (refusal 22 0 0 0 0))
+    (Err (refusal 22 0 0 0 0))

@@ -1,17 +1,16 @@
 // The styles of one entity: those of its layers in order, over lent tables and any bytes. `*` gets none.
 #![tactic(auto)]
 
-ghost use Rattle.std.specs.Prelude.{◌≡◌, ◌≤◌, length};
-ghost use Rattle.styles.specs.Styles.{blank_layer, no_styles, layer_styled, filled_layers, walked_styles, styles_of};
+ghost use Rattle.std.specs.Prelude.{◌≡◌, ◌≤◌, length, take};
+ghost use Rattle.styles.specs.Styles.{blank_layer, layer_styled, filled_layers, walked_styles, styles_of};
 
 use base::refusal::{Refusal, TABLE_BROKEN};
-use base::word_at;
-use entity::{EntityRange, single_entity};
-use parts::{default_width, row_of, tag_layer};
-use style::{Settings, Style, TextStyle, property_map_to_style};
+use entity::{ALONE, Entity, single_entity};
+use parts::{default_width, is_styled, tag_layer};
+use style::{Row, Settings, Style, property_map_to_style};
 use table::Tables;
-use valid::{Counts, is_sound};
-use walk::names::is_layer;
+use valid::{Counts, are_sound};
+use walk::maps::{Layers, row_of, selector_at};
 use walk::walk_entity;
 
 pub mod parts;
@@ -23,11 +22,20 @@ pub struct StyledLayer {
     pub style: Style,
 }
 
-// The answer, and the styled layers; behind them all is blank.
+// The styled layers, of which the first `count` are in use; behind them all is blank.
 #[derive(Clone, Copy)]
 pub struct EntityStyles {
-    pub answer: Result<usize, Refusal>,
     pub layers: [StyledLayer; 32],
+    pub count: usize,
+}
+
+impl EntityStyles {
+    pub fn styled(&self) -> &[StyledLayer]
+        ensures layers { result.now ≡ take self.now.count self.now.layers }
+        ensures few { length result.now ≤ 32 }
+    {
+        &self.layers[..self.count.min(32)]
+    }
 }
 
 // The styles of an entity: 22 for the tables, 7 and 2 for the entity, then the walk, then layer by layer.
@@ -37,33 +45,18 @@ pub fn entity_styles(
     zoom: u8,
     settings: Settings,
     entity: &[u8],
-) -> EntityStyles
+) -> Result<EntityStyles, Refusal>
     ensures { result ≡ styles_of tables.now.bundle.now tables.now.rules.now tables.now.selectors.now tables.now.tests.now tables.now.properties.now tables.now.numbers.now n zoom settings entity.now }
 {
-    if !is_sound(
-        tables.rules,
-        tables.selectors,
-        tables.tests,
-        tables.properties,
-        tables.numbers,
-        n,
-        tables.bundle.len(),
-    ) {
-        return no_styles(Refusal::plain(TABLE_BROKEN));
+    if !are_sound(tables, n) {
+        return Err(Refusal::plain(TABLE_BROKEN));
     }
-    match single_entity(entity) {
-        Err(r) => no_styles(r),
-        Ok(e) => walked_styles(tables, n.rules, zoom, settings, entity, e),
-    }
-}
-
-fn no_styles(r: Refusal) -> EntityStyles
-    ensures { result ≡ no_styles r }
-{
-    EntityStyles {
-        answer: Err(r),
-        layers: [blank_layer(); 32],
-    }
+    let range = single_entity(entity)?;
+    let entity = Entity {
+        bytes: entity,
+        range,
+    };
+    walked_styles(tables, n.rules, zoom, settings, entity)
 }
 
 // The styles of an entity that is read, beside tables that are sound.
@@ -72,48 +65,46 @@ fn walked_styles(
     total: usize,
     zoom: u8,
     settings: Settings,
-    entity: &[u8],
-    e: EntityRange,
-) -> EntityStyles
-    ensures { result ≡ walked_styles tables.now.bundle.now tables.now.rules.now tables.now.selectors.now tables.now.tests.now tables.now.properties.now tables.now.numbers.now total zoom settings entity.now e }
+    entity: Entity,
+) -> Result<EntityStyles, Refusal>
+    ensures { result ≡ walked_styles tables.now.bundle.now tables.now.rules.now tables.now.selectors.now tables.now.tests.now tables.now.properties.now tables.now.numbers.now total zoom settings entity.entry.bytes.now entity.entry.range }
 {
     let mut maps = [0u32; 4323];
-    match walk_entity(tables, total, zoom, entity, e, false, 0, &mut maps) {
-        Err(r) => no_styles(r),
-        Ok(n) => filled_layers(tables, &maps, n, e.kind, tag_layer(entity, e), settings),
-    }
+    let m = walk_entity(tables, total, zoom, entity, ALONE, &mut maps)?;
+    let kind = entity.range.kind;
+    Ok(filled_layers(tables, &maps, m, kind, tag_layer(entity), settings))
 }
 
-// The styles of the first n layers of a table of maps, `*` left out.
+// The styles of the first m layers of a table of maps, `*` left out.
 fn filled_layers(
     tables: &Tables,
     maps: &[u32; 4323],
-    n: usize,
+    m: Layers,
     kind: u8,
     layer: Option<i64>,
     settings: Settings,
 ) -> EntityStyles
-    requires { n ≤ 32 }
-    ensures { result ≡ filled_layers tables.now.bundle.now tables.now.selectors.now tables.now.properties.now tables.now.numbers.now maps.now n kind layer settings }
+    ensures { result ≡ filled_layers tables.now.bundle.now tables.now.selectors.now tables.now.properties.now tables.now.numbers.now maps.now m kind layer settings }
 {
-    let base = default_width(tables, maps, n);
+    let base = default_width(tables, maps, m.n);
     let mut layers = [blank_layer(); 32];
     let mut count: usize = 0;
-    for i in 0..n {
-        let s = word_at(&maps[..], i * 131);
-        if is_layer(tables.bundle, tables.selectors, s, b"*") {
+    for i in 0..m.n {
+        if !is_styled(tables, maps, i) {
             continue;
         }
+        // Lent again, since a row holds its tables at one lifetime.
+        let row = Row {
+            tables: &*tables,
+            numbers: row_of(maps, i),
+        };
         layers[count] = StyledLayer {
-            selector: s,
-            style: property_map_to_style(tables, row_of(maps, i), kind, layer, base, settings),
+            selector: selector_at(&maps[..], i),
+            style: property_map_to_style(row, kind, layer, base, settings),
         };
         count += 1;
     }
-    EntityStyles {
-        answer: Ok(count),
-        layers,
-    }
+    EntityStyles { layers, count }
 }
 
 #[tactic(auto, unfolding(crate::specs::Styles::blank_layer))]
@@ -140,12 +131,7 @@ fn blank_layer() -> StyledLayer
             casing_line_cap: None,
             icon_image: None,
             fill_image: None,
-            text_style: TextStyle {
-                text: None,
-                text_color: None,
-                text_position: None,
-                font_size: None,
-            },
+            text_style: None,
         },
     }
 }

@@ -1,2 +1,3 @@
 pub mod Values
 pub mod Back
+pub mod KindLaws

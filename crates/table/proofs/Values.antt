@@ -1,6 +1,6 @@
 -- Words of an entry as the code reads them, and the value that they stand for.
 use Prim.Native.Nat.{ℕ, ◌+◌, ◌*◌, ◌%◌, ◌≤◌}
-use mathlib.Core.Path.{◌≡◌, refl, sym, ◌∙◌, ap, ap₂}
+use mathlib.Core.Path.{◌≡◌, refl, sym, ◌∙◌, ap}
 use mathlib.Core.List.{List}
 use Rattle.std.specs.Prelude.{eqb}
 use lib.Ieee.{Float}
@@ -18,9 +18,6 @@ use Rattle.table.specs.declared.PropertyValue.TheVariants.{NoValue, Identifier, 
 
 pub word_past : (t : List ℕ) (i j : ℕ) → length t ≤ i * 8 + j → 0 ≡ word_at t i j
 word_past t i j h = sym (get_or-eq_default t 0 h)
-
-pub range_is : (t : List ℕ) (i j a b : ℕ) → a ≡ word_at t i j → b ≡ word_at t i (j + 1) → record { from = a; to = b } ≡ range_at t i j
-range_is t i j a b p q = ap₂ (λ (x y : ℕ). record { from = x; to = y }) p q
 
 pub color_is :
     (t : List ℕ) (i a b c : ℕ)

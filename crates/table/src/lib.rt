@@ -1,13 +1,15 @@
 // The tables of a sheet: words of their entries, and a property's value. docs/TABLES.md has every word.
 #![tactic(auto)]
 
-ghost use Rattle.std.specs.Prelude.{◌≡◌, ◌<◌};
+ghost use Rattle.std.specs.Prelude.{◌≡◌};
 ghost use Rattle.table.specs.Value.{word_at, range_at, color_at, value_at};
 ghost use Rattle.table.specs.declared.Name.TheVariants.{Joined};
 ghost use Rattle.table.specs.declared.PropertyValue.TheVariants.{Identifier};
 
 use base::Range;
 use color::Color;
+
+pub mod kind;
 
 // The tables of a loaded sheet, and the bundle that their names are in.
 #[derive(Clone, Copy)]
@@ -72,12 +74,11 @@ pub fn color_at(t: &[u32], i: usize) -> Color
 }
 
 // Words j and j + 1 of entry i, as a range.
-fn range_of(t: &[u32], i: usize, j: usize) -> Range
-    requires { j < 7 }
+pub fn range_of(t: &[u32], i: usize, j: usize) -> Range
     ensures { result ≡ range_at t.now i j }
 {
     let from = word_of(t, i, j);
-    let to = word_of(t, i, j + 1);
+    let to = word_of(t, i, j.saturating_add(1));
     Range { from, to }
 }
 

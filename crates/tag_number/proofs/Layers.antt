@@ -5,13 +5,16 @@ use mathlib.Core.Path.{◌≡◌, refl, sym, ◌∙◌, ap}
 use mathlib.Core.Bool.{Bool, true, false}
 use mathlib.Core.Option.{some}
 use lib.IntN.{ℤ, pos, negsuc, neg_ℤ, ◌-ℤ◌}
-use borrow.Author.Tests.{lt-ltb, le-ltb}
+use borrow.Author.Tests.{lt-ltb, le-ltb, ltb-true, ltb-false}
+use lib.Dec.{ltb}
+use Rattle.base.specs.Choice.{by-test}
+use Rattle.std.specs.Result.{OkIff, result_ok}
 use mir.Syntax.{w64}
 use mir.Val.{SFits, to_z, of_z}
 use mir.Facts.{to_z_pos, to_z-of_z}
 use Rattle.cascade.specs.Number.{with_sign, ranged}
 use Rattle.tag_number.specs.Told.{layer_told}
-use Rattle.std.specs.Prelude.{Option, Some, None}
+use Rattle.std.specs.Prelude.{Option, Some, None, Result, Ok, Err}
 
 -- -1 less m
 less_one : (m : ℕ) → negsuc 0 -ℤ pos m ≡ negsuc m
@@ -54,10 +57,22 @@ module _ (n : ℕ) where
         → r ≡ layer_told (ranged (some (with_sign m n)))
     layer_below r h e = e ∙ ap (λ (t : Bool). layer_told (ranged (some (with_sign t n)))) (sym h)
 
-    pub layer_up : m ≡ false → n < 2 ^ 63 → Some (to_z w64 n) ≡ layer_told (ranged (some (with_sign m n)))
+    layer_up : m ≡ false → n < 2 ^ 63 → Some (pos n) ≡ layer_told (ranged (some (with_sign m n)))
     unfolding ranged layer_told
-    layer_up h l = ap Some (to_z_pos w64 l) ∙ (rw (h, lt-ltb n (2 ^ 63) l))
+    layer_up h l = rw (h, lt-ltb n (2 ^ 63) l)
 
-    pub layer_out : m ≡ false → 2 ^ 63 ≤ n → None ≡ layer_told (ranged (some (with_sign m n)))
+    layer_out : m ≡ false → 2 ^ 63 ≤ n → None ≡ layer_told (ranged (some (with_sign m n)))
     unfolding ranged layer_told
     layer_out h l = rw (h, le-ltb n (2 ^ 63) l)
+
+    pub layer_tried :
+        {E : Type 0} (q : Result ℤ E) (r : Option ℤ)
+        → m ≡ false
+        → OkIff q (SFits w64 (pos n)) (pos n)
+        → r ≡ result_ok q
+        → r ≡ layer_told (ranged (some (with_sign m n)))
+    layer_tried (Ok y) r h f e = e ∙ ap Some f.1 ∙ layer_up h f.0.sfits
+    layer_tried (Err y) r h f e =
+        by-test (ltb n (2 ^ 63))
+        (λ t. absurd (f (record { sfits = ltb-true n (2 ^ 63) t })))
+        (λ t. e ∙ layer_out h (ltb-false n (2 ^ 63) t))

@@ -70,10 +70,7 @@ fn layer_of(minus: bool, n: u64) -> Option<i64>
     if minus {
         return layer_below(n);
     }
-    if n < 9223372036854775808 {
-        return Some(n as i64);
-    }
-    None
+    i64::try_from(n).ok()
 }
 
 // The layer that is so far below 0.

@@ -34,7 +34,7 @@ fn print_text<W: Write>(out: &mut W, s: &[u8], k: usize) -> io::Result<()> {
         Some((name, text)) => {
             let bytes = base::part(s, text);
             out.write_all(base::part(s, name))?;
-            print_number(out, bytes.len())?;
+            print_number(out, bytes.len() as u64)?;
             out.write_all(b"\n")
         }
     }
@@ -42,15 +42,13 @@ fn print_text<W: Write>(out: &mut W, s: &[u8], k: usize) -> io::Result<()> {
 
 fn print_refusal<W: Write>(out: &mut W, r: Refusal) -> io::Result<()> {
     out.write_all(b"refused")?;
-    print_number(out, r.number)?;
-    print_number(out, r.reason)?;
-    print_number(out, r.text)?;
-    print_number(out, r.line)?;
-    print_number(out, r.character)?;
+    for n in r.numbers() {
+        print_number(out, n)?;
+    }
     out.write_all(b"\n")
 }
 
-fn print_number<W: Write>(out: &mut W, n: usize) -> io::Result<()>
+fn print_number<W: Write>(out: &mut W, n: u64) -> io::Result<()>
     ensures { OnOk result (Appends (W.contents out.old) (W.contents out.new) (32 ∷ decimal n)) }
 {
     write!(out, " {n}")

@@ -25,10 +25,9 @@ pub enum Step {
 pub fn next_token(s: &[u8], c: Cursor) -> Result<Step, LexerError>
     ensures { result ≡ step_of s.now c }
 {
-    match next_significant_char(s, c) {
-        Err(d) => Err(lexer_error(OPEN_COMMENT, d)),
-        Ok(Significant::Ended(d)) => Ok(Step::End(d)),
-        Ok(Significant::Found(idx, ch, d)) => {
+    match next_significant_char(s, c).map_err(|d| lexer_error(OPEN_COMMENT, d))? {
+        Significant::Ended(d) => Ok(Step::End(d)),
+        Significant::Found(idx, ch, d) => {
             let (token, e) = read::read_token(s, idx, ch, d)?;
             Ok(Step::Took(token, d.line, d.character, e))
         }

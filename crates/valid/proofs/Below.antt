@@ -1,20 +1,39 @@
--- Every number below a count: one that fails, and one more that holds.
+-- Every number below a count: as every entry of a list, and one more that holds.
 use Prim.Native.Nat.{ℕ, zero, suc, ◌+◌, ◌<◌}
 use native.Mathlib.Numerals.{add-one}
 use native.Mathlib.Omega.{arith}
-use mathlib.Core.Path.{◌≡◌, refl, sym, ◌∙◌, ap}
-use mathlib.Core.Bool.{Bool, true, false}
-use Rattle.base.specs.Choice.{if_true, if_false, by-test, clash}
+use mathlib.Core.Path.{◌≡◌, refl, sym, ◌∙◌, ap, ap₂}
+use mathlib.Core.Bool.{Bool, true, false, ◌&&◌}
+use mathlib.Core.List.{List, [], ◌∷◌}
+use lib.ListN.{length, get_or}
+use Rattle.std.specs.List.{list_all}
+use Rattle.base.specs.Choice.{pick, by-test, if_true}
 use Rattle.valid.specs.Valid.{all_below}
 
--- one that fails, below n
-pub below_fails : (p : ℕ → Bool) (n i : ℕ) → i < n → p i ≡ false → false ≡ all_below p n
-unfolding all_below
-below_fails p zero i h e = absurd (omega arith)
-below_fails p (suc n) i h e =
-    by-test (p n)
-    (λ t. if_true (p n) (all_below p n) false t (below_fails p n i (let d : i ≡ n → ⊥ = λ q. clash t (ap p (sym q) ∙ e) in omega arith) e))
-    (λ f. if_false (p n) (all_below p n) false f refl)
+-- from the front
+below_front : (p : ℕ → Bool) (n : ℕ) → all_below p (suc n) ≡ pick (p 0) (all_below (λ i. p (suc i)) n) false
+unfolding all_below pick
+below_front p zero = refl
+below_front p (suc n) =
+    by-test (p (suc n))
+    (λ a. rw a (below_front p n))
+    (λ a. by-test (p 0) (λ b. rw (a, b)) (λ b. rw (a, b)))
+
+and_pick : (a b : Bool) → (a && b) ≡ pick a b false
+unfolding pick
+and_pick true b = refl
+and_pick false b = refl
+
+pub all_is :
+    {A : Type 0} (d : A) (test : A → Bool) (xs : List A) (p : ℕ → Bool)
+    → ((i : ℕ) → i < length xs → test (get_or xs i d) ≡ p i)
+    → list_all test xs ≡ all_below p (length xs)
+unfolding all_below pick
+all_is d test [] p h = refl
+all_is d test (x ∷ xs) p h =
+    ap₂ ◌&&◌ (h 0 (omega arith)) (all_is d test xs (λ i. p (suc i)) (λ i g. h (suc i) (omega arith)))
+    ∙ and_pick (p 0) (all_below (λ i. p (suc i)) (length xs))
+    ∙ sym (below_front p (length xs))
 
 -- one more that holds
 pub below_next : (p : ℕ → Bool) (n : ℕ) → all_below p n ≡ true → p n ≡ true → all_below p (n + 1) ≡ true

@@ -8,7 +8,11 @@ use lib.ListN.{length, get_or, take, drop}
 use Rattle.std.proofs.lemmas.List.{get_or-take, get_or-drop, drop-drop}
 use Rattle.std.specs.Simd.{first_chunks}
 use Rattle.table.specs.Value.{word_at}
-use Rattle.valid.specs.Valid.{two_zeros, marked_span, rule_sound, selector_sound, named_entry, number_value, test_value, test_sound, one_span, two_spans, color_words, delta_words, value_sound, property_sound}
+use Rattle.std.specs.List.{list_all}
+use Rattle.valid.proofs.Below.{all_is}
+use mathlib.Core.Bool.{Bool}
+use lib.ListN.{length-take}
+use Rattle.valid.specs.Valid.{all_below, two_zeros, marked_span, rule_sound, selector_sound, named_entry, number_value, test_value, test_sound, one_span, two_spans, color_words, delta_words, value_sound, property_sound}
 
 -- an entry is the words from its place on
 entry_is : (t : List ℕ) (k i : ℕ) → i < k → get_or (first_chunks 8 k t) i [] ≡ take 8 (drop (i * 8) t)
@@ -43,3 +47,34 @@ module _ (t : List ℕ) (n i : ℕ) (room : n * 8 ≤ length t) (below : i < n) 
   pub property_entry : (m b : ℕ) → property_sound entry m b 0 ≡ property_sound t m b i
   unfolding property_sound named_entry value_sound one_span two_spans color_words delta_words two_zeros
   property_entry m b = simp (at 0 (omega arith), at 1 (omega arith), at 2 (omega arith), at 3 (omega arith), at 4 (omega arith), at 5 (omega arith), at 6 (omega arith), at 7 (omega arith)) refl
+
+-- the entries of a table that are judged one after another
+module _ (t : List ℕ) (n : ℕ) (room : n * 8 ≤ length t) (xs : List (List ℕ)) (front : xs ≡ first_chunks 8 (length t / 8) t)
+    (len : length xs ≡ length t / 8) (r : Bool) where
+  there : length (take n xs) ≡ n
+  there = omega (arith, length-take n xs)
+
+  judged :
+      (test : List ℕ → Bool) (p : ℕ → Bool)
+      → ((i : ℕ) → i < n → test (get_or (first_chunks 8 (length t / 8) t) i []) ≡ p i)
+      → r ≡ list_all test (take n xs)
+      → r ≡ all_below p n
+  judged test p h e =
+      e
+      ∙ all_is [] test (take n xs) p
+      (λ i g.
+      let below : i < n = omega (arith, there) in
+      ap test (get_or-take n xs i [] below ∙ ap (λ (x : List (List ℕ)). get_or x i []) front) ∙ h i below)
+      ∙ ap (all_below p) there
+
+  pub rules_are : (s p : ℕ) → r ≡ list_all (λ e. rule_sound e s p 0) (take n xs) → r ≡ all_below (rule_sound t s p) n
+  rules_are s p = judged (λ e. rule_sound e s p 0) (rule_sound t s p) (λ i g. rule_entry t n i room g s p)
+
+  pub selectors_are : (s b : ℕ) → r ≡ list_all (λ e. selector_sound e s b 0) (take n xs) → r ≡ all_below (selector_sound t s b) n
+  selectors_are s b = judged (λ e. selector_sound e s b 0) (selector_sound t s b) (λ i g. selector_entry t n i room g s b)
+
+  pub tests_are : (ys : List Float) (m b : ℕ) → r ≡ list_all (λ e. test_sound e ys m b 0) (take n xs) → r ≡ all_below (test_sound t ys m b) n
+  tests_are ys m b = judged (λ e. test_sound e ys m b 0) (test_sound t ys m b) (λ i g. test_entry t n i room g ys m b)
+
+  pub properties_are : (m b : ℕ) → r ≡ list_all (λ e. property_sound e m b 0) (take n xs) → r ≡ all_below (property_sound t m b) n
+  properties_are m b = judged (λ e. property_sound e m b 0) (property_sound t m b) (λ i g. property_entry t n i room g m b)

@@ -1,10 +1,12 @@
 // Whether handed tables are sound, every entry below the counts: what refusal 22 judges.
 #![tactic(auto)]
 
-ghost use Rattle.std.specs.Prelude.{◌≡◌, ℕ, Bool, eqb, ◌<◌, [], ◌∷◌};
+ghost use Rattle.std.specs.Prelude.{◌≡◌, ℕ, Bool, eqb, ◌<◌, [], ◌∷◌, length};
 ghost use Rattle.table.specs.Value.{word_at};
 ghost use Rattle.valid.specs.Valid.{span_in, marked_span, rule_sound, selector_sound, named_entry, test_sound, test_value, number_value, property_sound, value_sound, one_span, color_words, all_below, entries_held, counts_held, tables_sound};
 ghost use Rattle.base.specs.Choice.{pick};
+
+use table::Tables;
 
 // How many entries each table holds. No styling reads the table of colours.
 #[derive(Clone, Copy)]
@@ -39,22 +41,34 @@ pub fn is_sound(
     ) {
         return false;
     }
-    let rules = rules.as_chunks::<8>().0;
-    let selectors = selectors.as_chunks::<8>().0;
-    let tests = tests.as_chunks::<8>().0;
-    let properties = properties.as_chunks::<8>().0;
-    each_below(
-        n.rules,
-        |i| rule_sound(&rules[i], n.selectors, n.properties),
-    ) && each_below(
-        n.selectors,
-        |i| selector_sound(&selectors[i], n.tests, bundle),
-    ) && each_below(
-        n.tests,
-        |i| test_sound(&tests[i], numbers, n.numbers, bundle),
-    ) && each_below(
-        n.properties,
-        |i| property_sound(&properties[i], n.numbers, bundle),
+    let rules = &rules.as_chunks::<8>().0[..n.rules];
+    let selectors = &selectors.as_chunks::<8>().0[..n.selectors];
+    let tests = &tests.as_chunks::<8>().0[..n.tests];
+    let properties = &properties.as_chunks::<8>().0[..n.properties];
+    rules
+        .iter()
+        .all(|e| rule_sound(e, n.selectors, n.properties))
+        && selectors.iter().all(|e| selector_sound(e, n.tests, bundle))
+        && tests
+            .iter()
+            .all(|e| test_sound(e, numbers, n.numbers, bundle))
+        && properties
+            .iter()
+            .all(|e| property_sound(e, n.numbers, bundle))
+}
+
+// The same of the tables together, beside their bundle.
+pub fn are_sound(tables: &Tables, n: Counts) -> bool
+    ensures { result ≡ tables_sound tables.now.rules.now tables.now.selectors.now tables.now.tests.now tables.now.properties.now tables.now.numbers.now n (length tables.now.bundle.now) }
+{
+    is_sound(
+        tables.rules,
+        tables.selectors,
+        tables.tests,
+        tables.properties,
+        tables.numbers,
+        n,
+        tables.bundle.len(),
     )
 }
 
@@ -81,19 +95,6 @@ fn counts_held(
         && entries_held(n.tests, tests)
         && entries_held(n.properties, properties)
         && n.numbers <= base::capacity(1, numbers)
-}
-
-// Whether what is asked holds of every number below n.
-fn each_below<F: Fn(usize) -> bool>(n: usize, holds: F) -> bool
-    requires { (i : ℕ) → i < n → F.pre holds i }
-    ensures { (p : ℕ → Bool) → ((i : ℕ) (r : Bool) → i < n → F.post holds i r → r ≡ p i) → result ≡ all_below p n }
-{
-    for i in 0..n {
-        if !holds(i) {
-            return false;
-        }
-    }
-    true
 }
 
 // Whether a range is in order and within so many.

@@ -11,9 +11,10 @@ use lib.Seq.{take-suc, set_at, append_snoc, length-take-le, drop-append-le, drop
 use Rattle.std.specs.List.{copy_within}
 use Rattle.std.proofs.lemmas.List.Edits.{paste_more}
 use borrow.Author.Tests.{lt-ltb, le-ltb, ne_eqb, eq-eqb}
-use Rattle.base.specs.Bytes.{Bytes, same, between}
+use Rattle.base.specs.Bytes.{Bytes, same, within}
+use Rattle.base.specs.declared.Range.{Range}
 use Rattle.base.specs.Choice.{pick}
-use Rattle.table.specs.Value.{word_at}
+use Rattle.table.specs.Value.{word_at, range_at}
 use Rattle.cascade.specs.Clause.{star, default_name}
 use Rattle.decode.specs.Decode.{layer_at}
 use Rattle.walk.specs.Rows.{assigns}
@@ -30,13 +31,12 @@ module _ (bundle : Bytes) (selectors : List ℕ) (s w : ℕ) (e : w ≡ word_at 
 
   pub named_layer :
       w ≡ 1
-      → (a b : ℕ) (p : Bytes)
-      → a ≡ word_at selectors s 6
-      → b ≡ word_at selectors s 7
-      → p ≡ between a b bundle
+      → (r : Range) (p : Bytes)
+      → r ≡ range_at selectors s 6
+      → p ≡ within r bundle
       → p ≡ layer_in bundle selectors s
   unfolding layer_at pick
-  named_layer z a b p f g q = rw (← e, eq-eqb w 1 z, ← f, ← g) q
+  named_layer z r p f q = rw (← e, eq-eqb w 1 z) (q ∙ ap (λ x. within x bundle) f)
 
 module _ (layer : ℕ → Bytes) (t : List ℕ) (l : Bytes) where
   seek_at :

@@ -1,49 +1,58 @@
 -- Laws of rows: the place of a name as the search finds it, an assignment as one store, and the assignments of a range, in order.
 use Prim.Native.Nat.{ℕ, suc, ◌+◌, ◌-◌, ◌≤◌, ◌<◌, max, min}
-use native.Mathlib.Numerals.{add-one}
-use native.Mathlib.Nat.{add-zero, zero-add}
 use native.Mathlib.Omega.{arith}
 use mathlib.Core.Path.{◌≡◌, refl, sym, ◌∙◌, ap, ap₂, subst}
-use mathlib.Core.Bool.{true, false, cond}
 use mathlib.Core.List.{List, [], ◌∷◌, ◌++◌}
 use lib.ListN.{length, take, drop, get_or, set, length-take, length-drop, length-append, take-append-drop}
-use lib.Seq.{drop-cons, drop-length, drop-append_seam, split_at, take_at, drop_at, drop-drop}
+use lib.Seq.{drop-append_seam, split_at, take_at, drop_at, drop-drop}
 use Rattle.base.specs.Bytes.{Bytes, same}
 use Rattle.base.specs.Choice.{by-test}
 use Rattle.cascade.specs.Numbered.{assign}
 use Rattle.decode.specs.Decode.{places}
-use Rattle.walk.specs.Rows.{place_of, assigns}
+use Rattle.walk.specs.Rows.{below, place_of, assigns}
+use Rattle.std.specs.Prelude.{Option, Some, None, ltb, unwrap_or}
+use Rattle.std.specs.List.{position_or_len}
+use Rattle.base.proofs.Options.{none_some}
+use borrow.Author.Tests.{lt-ltb, le-ltb, ltb-true, ltb-false}
 
-module _ (name : ℕ → Bytes) (js : List ℕ) (k : Bytes) where
-  place_at :
-      (i : ℕ)
-      → i < length js
-      → place_of name (drop i js) k ≡ cond (same k (name (get_or js i 0))) 0 (suc (place_of name (drop (i + 1) js) k))
-  unfolding place_of
-  place_at i h = rw (drop-cons js i 0 h, add-one i)
+-- the search finds the place, and no place where that is the row's length
+pub place_is : (name : ℕ → Bytes) (k : Bytes) (js : List ℕ) → position_or_len (λ j. same k (name j)) js ≡ place_of name js k
+unfolding place_of
+place_is name k [] = refl
+place_is name k (j ∷ js) = by-test (same k (name j)) (λ e. rw e) (λ e. rw (e, place_is name k js) (omega arith))
 
-  pub place_found :
-      (i : ℕ)
-      → i < length js
-      → place_of name js k ≡ i + place_of name (drop i js) k
-      → true ≡ same k (name (get_or js i 0))
-      → i ≡ place_of name js k
-  place_found i h inv s = sym (inv ∙ (rw (place_at i h, ← s) (add-zero i)))
+pub below_found : (n k i : ℕ) → i ≡ k → i < n → Some i ≡ below n k
+unfolding below
+below_found n k i e h = rw (← e, lt-ltb i n h)
 
-  pub place_next :
-      (i : ℕ)
-      → i < length js
-      → place_of name js k ≡ i + place_of name (drop i js) k
-      → false ≡ same k (name (get_or js i 0))
-      → place_of name js k ≡ (i + 1) + place_of name (drop (i + 1) js) k
-  place_next i h inv s = inv ∙ (rw (place_at i h, ← s) (omega arith))
+pub below_none : (n k : ℕ) → n ≤ k → None ≡ below n k
+unfolding below
+below_none n k h = rw (le-ltb k n h)
 
-  pub place_none : (i : ℕ) → i ≡ length js → place_of name js k ≡ i + place_of name (drop i js) k → i ≡ place_of name js k
-  unfolding place_of
-  place_none i e inv = sym (inv ∙ ap (λ n. i + place_of name (drop n js) k) e ∙ (rw (drop-length js) (add-zero i)))
+-- what is found is the place, and among the first n
+pub below_some : (n k i : ℕ) (r : Option ℕ) → r ≡ below n k → r ≡ Some i → (i ≡ k) × (i < n)
+unfolding below
+below_some n k i r p q =
+    by-test (ltb k n)
+    (λ t. let g : below n k ≡ Some k = rw t refl in
+    let e : Some k ≡ Some i = sym (p ∙ g) ∙ q in
+    let f : k ≡ i = cc in
+    (sym f, omega (arith, ltb-true k n t)))
+    (λ t. let e : below n k ≡ None = rw t refl in none_some (sym (p ∙ e) ∙ q))
 
-  pub place_start : place_of name js k ≡ 0 + place_of name (drop 0 js) k
-  place_start = sym (zero-add (place_of name js k))
+pub below_out : (n k : ℕ) (r : Option ℕ) → r ≡ below n k → r ≡ None → n ≤ k
+unfolding below
+below_out n k r p q =
+    by-test (ltb k n)
+    (λ t. let e : below n k ≡ Some k = rw t refl in none_some (sym q ∙ p ∙ e))
+    (λ t. ltb-false k n t)
+
+place_or : (n count k at : ℕ) (r : Option ℕ) → n ≡ count → k ≤ n → r ≡ below n k → at ≡ unwrap_or r count → at ≡ k
+unfolding below
+place_or n count k at r e h p q =
+    by-test (ltb k n)
+    (λ t. q ∙ ap (λ (o : Option ℕ). unwrap_or o count) p ∙ rw t refl)
+    (λ t. q ∙ ap (λ (o : Option ℕ). unwrap_or o count) p ∙ rw t (omega (arith, ltb-false k n t)))
 
 -- ---- an assignment is one store
 
@@ -79,26 +88,31 @@ module _ (name : ℕ → Bytes) (p : ℕ) where
       (store (take count row) (get_or row count 0) (drop (suc count) row))
 
   -- as the code finds the place, by a name k
-  module _ (row : List ℕ) (count at : ℕ) (h : count < length row) (k : Bytes) (named : k ≡ name p)
-      (found : at ≡ place_of name (take count row) k) where
+  module _ (row : List ℕ) (count at : ℕ) (h : count < length row) (k : Bytes) (named : k ≡ name p) (r : Option ℕ)
+      (seen : r ≡ below (length (take count row)) (place_of name (take count row) k)) (found : at ≡ unwrap_or r count) where
     here : at ≡ place_of name (take count row) (name p)
-    here = found ∙ ap (place_of name (take count row)) named
+    here =
+        place_or (length (take count row)) count (place_of name (take count row) (name p)) at r
+        (omega (arith, length-take count row))
+        (place_le (take count row))
+        (seen ∙ ap (λ x. below (length (take count row)) (place_of name (take count row) x)) named)
+        found
 
     pub place_within : at ≤ count
     place_within = omega (arith, here, place_le (take count row), length-take count row)
 
     pub assigned_at :
-        (r : ℕ)
-        → r ≡ max count (at + 1)
-        → (r ≡ length (assign name (take count row) p)) × (set row at p ≡ assign name (take count row) p ++ drop r row)
-    assigned_at r e = (
+        (w : ℕ)
+        → w ≡ max count (at + 1)
+        → (w ≡ length (assign name (take count row) p)) × (set row at p ≡ assign name (take count row) p ++ drop w row)
+    assigned_at w e = (
       len,
       ap (λ i. set row i p) here
           ∙ store_row row count h
           ∙ ap (λ n. assign name (take count row) p ++ drop n row) (sym len),
     )
       where
-        len : r ≡ length (assign name (take count row) p)
+        len : w ≡ length (assign name (take count row) p)
         len = omega (arith, here, length_assign (take count row), length-take count row)
 
 -- ---- a rule's properties, in order

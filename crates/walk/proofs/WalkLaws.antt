@@ -25,7 +25,9 @@ use Rattle.walk.proofs.LayerLaws.{told_stop, told_going, bind_stop, bind_going, 
 use Rattle.walk.specs.Run.{Run, stop, going, told, seek, step_of, on_verdict, hit_of, selectors_of, rule_of, rules_of}
 use Rattle.walk.specs.Maps.{no_rows, finish, walk_of, maps_of, layer_place}
 use Rattle.walk.specs.Selectors.{layer_in, verdict_in}
-use Rattle.std.specs.Prelude.{Result, Ok, Err}
+use Rattle.std.specs.Prelude.{Option, None, Result, Ok, Err}
+use Rattle.walk.specs.Rows.{below}
+use Rattle.walk.proofs.RowLaws.{below_none}
 use Rattle.base.specs.Option.{result_err, result_ok}
 
 module _ (name layer : ℕ → Bytes) (verdict_of : ℕ → Verdict) (t : List ℕ) (n s end : ℕ) (ps : List ℕ) where
@@ -197,15 +199,17 @@ module _ (bundle rules selectors tests properties : List ℕ) (numbers : List Fl
       rules_of (name_at bundle properties) (layer_in bundle selectors)
       (verdict_in bundle selectors tests numbers zoom entity e) rules d 0 0 total) z))
 
-pub place_many : (layer : ℕ → Bytes) (t : List ℕ) (n : ℕ) (name : Bytes) → 32 < n → n ≡ layer_place layer t n name
+pub place_many : (layer : ℕ → Bytes) (t : List ℕ) (n : ℕ) (name : Bytes) → 32 < n → None ≡ below n (layer_place layer t n name)
 unfolding layer_place
-place_many layer t n name h = if_true _ _ _ (lt-ltb 32 n h) refl
+place_many layer t n name h =
+    let e : n ≡ layer_place layer t n name = if_true _ _ _ (lt-ltb 32 n h) refl in
+    below_none n (layer_place layer t n name) (omega (arith, e))
 
 pub place_few :
     (layer : ℕ → Bytes) (t : List ℕ) (n : ℕ) (name : Bytes)
     → n ≤ 32
-    → (r : ℕ)
-    → r ≡ seek layer t name 0 n
-    → r ≡ layer_place layer t n name
+    → (r : Option ℕ)
+    → r ≡ below n (seek layer t name 0 n)
+    → r ≡ below n (layer_place layer t n name)
 unfolding layer_place
-place_few layer t n name h r e = if_false _ _ _ (le-ltb 32 n h) e
+place_few layer t n name h r e = e ∙ ap (below n) (if_false _ _ _ (le-ltb 32 n h) refl)

@@ -1,86 +1,70 @@
-// The layers of a walk, a row of 131 words each: the number of the selector that named the layer, its count of properties, their numbers.
-ghost use Rattle.std.specs.Prelude.{◌≡◌, ◌-◌};
-ghost use Rattle.decode.specs.Decode.{name_at, places};
+// The layers of a walk: found by name, made, and assigned to.
+ghost use Rattle.std.specs.Prelude.{◌≡◌};
+ghost use Rattle.decode.specs.Decode.{name_at};
+ghost use Rattle.walk.specs.Rows.{below, numbers_in};
 ghost use Rattle.walk.specs.Selectors.{layer_in};
 ghost use Rattle.walk.specs.Run.{told, assign_at, assign_all, seek, new_row, touch_of, step_of};
 
+use crate::maps::{Layers, ROW, selector_at};
 use crate::names::{is_layer, layer_name};
+use crate::rows::{Properties, assign_range};
 use base::refusal::{TOO_MANY_LAYERS, TOO_MANY_NAMES};
-use std::marker::Model;
 use table::Tables;
 
-// How many layers there are, or the number of one: the table of maps has 33 rows.
-#[derive(Clone, Copy)]
-pub struct Layers {
-    pub n: usize,
-}
-
-impl Model for Layers {
-    ghost use Rattle.std.specs.Prelude.{ℕ, ◌≤◌};
-
-    ghost Value = { ℕ };
-
-    ghost view = { λ l. l.n };
-
-    ghost invariant = { λ l. l.n ≤ 32 };
-
-    ghost inverse = { λ k. record { n = k } };
-}
-
-// The place of the layer of this name among the first n, or n.
-pub fn find_named(bundle: &[u8], selectors: &[u32], t: &[u32], n: Layers, name: &[u8]) -> usize
-    ensures { result ≡ seek (layer_in bundle.now selectors.now) t.now name.now 0 n }
+// The layer of this name among the first n.
+pub fn find_named(
+    bundle: &[u8],
+    selectors: &[u32],
+    t: &[u32],
+    n: Layers,
+    name: &[u8],
+) -> Option<Layers>
+    ensures { result ≡ below n (seek (layer_in bundle.now selectors.now) t.now name.now 0 n) }
 {
     for i in 0..n.n {
-        if is_layer(bundle, selectors, base::word_at(t, i * 131), name) {
-            return i;
+        if is_layer(bundle, selectors, selector_at(t, i), name) {
+            return Some(Layers { n: i });
         }
     }
-    n.n
+    None
 }
 
-// The place of selector s's layer among the first n, or n.
-fn find_layer(tables: &Tables, t: &[u32], n: Layers, s: u32) -> usize
-    ensures { result ≡ seek (layer_in tables.now.bundle.now tables.now.selectors.now) t.now (layer_in tables.now.bundle.now tables.now.selectors.now s) 0 n }
+// Selector s's layer among the first n.
+fn find_layer(tables: &Tables, t: &[u32], n: Layers, s: u32) -> Option<Layers>
+    ensures { result ≡ below n (seek (layer_in tables.now.bundle.now tables.now.selectors.now) t.now (layer_in tables.now.bundle.now tables.now.selectors.now s) 0 n) }
 {
-    find_named(
-        tables.bundle,
-        tables.selectors,
-        t,
-        n,
-        layer_name(tables.bundle, tables.selectors, s),
-    )
+    let name = layer_name(tables.bundle, tables.selectors, s);
+    find_named(tables.bundle, tables.selectors, t, n, name)
 }
 
 // Makes row n the row of a new layer, named by selector s: a copy of the row of `*`, if there is one.
 fn new_layer(tables: &Tables, t: &mut [u32; 4323], n: Layers, s: u32)
     ensures { t.new ≡ new_row (layer_in tables.now.bundle.now tables.now.selectors.now) t.old n s }
 {
-    let j = find_named(tables.bundle, tables.selectors, &t[..], n, b"*");
-    if j < n.n {
-        t.copy_within(j * 131..(j + 1) * 131, n.n * 131);
-        t[n.n * 131] = s;
+    let at = n.n * ROW;
+    if let Some(j) = find_named(tables.bundle, tables.selectors, &t[..], n, b"*") {
+        t.copy_within(j.n * ROW..(j.n + 1) * ROW, at);
+        t[at] = s;
         return;
     }
-    t[n.n * 131] = s;
+    t[at] = s;
 }
 
-// Assigns the properties from..to to layer i, of m.
+// Assigns properties to layer i, of m.
 fn assign_layer(
     tables: &Tables,
     t: &mut [u32; 4323],
     m: Layers,
     i: Layers,
-    from: u32,
-    to: u32,
+    ps: Properties,
 ) -> Result<Layers, usize>
-    ensures { told result t.new ≡ assign_at (name_at tables.now.bundle.now tables.now.properties.now) t.old m i (places from (to - from)) }
+    ensures { told result t.new ≡ assign_at (name_at tables.now.bundle.now tables.now.properties.now) t.old m i (numbers_in ps) }
 {
-    let h = i.n * 131 + 1;
+    let h = i.n * ROW + 1;
     let a = h + 1;
     let e = a + 129;
     let count = t[h] as usize;
-    let k = crate::rows::assign_range(tables, &mut t[a..e], count, from, to);
+    let k = assign_range(tables, &mut t[a..e], count, ps);
     if k < 129 {
         t[h] = k as u32;
         return Ok(m);
@@ -88,18 +72,17 @@ fn assign_layer(
     Err(TOO_MANY_NAMES)
 }
 
-// Assigns the properties from..to to all m layers.
+// Assigns properties to all m layers.
 fn assign_all(
     tables: &Tables,
     t: &mut [u32; 4323],
     m: Layers,
-    from: u32,
-    to: u32,
+    ps: Properties,
 ) -> Result<Layers, usize>
-    ensures { told result t.new ≡ assign_all (name_at tables.now.bundle.now tables.now.properties.now) t.old m 0 m (places from (to - from)) }
+    ensures { told result t.new ≡ assign_all (name_at tables.now.bundle.now tables.now.properties.now) t.old m 0 m (numbers_in ps) }
 {
     for i in 0..m.n {
-        assign_layer(tables, t, m, Layers { n: i }, from, to)?;
+        assign_layer(tables, t, m, Layers { n: i }, ps)?;
     }
     Ok(m)
 }
@@ -111,15 +94,14 @@ fn touch(
     m: Layers,
     j: Layers,
     s: u32,
-    from: u32,
-    to: u32,
+    ps: Properties,
 ) -> Result<Layers, usize>
-    ensures { told result t.new ≡ touch_of (name_at tables.now.bundle.now tables.now.properties.now) (layer_in tables.now.bundle.now tables.now.selectors.now) t.old m j s (places from (to - from)) }
+    ensures { told result t.new ≡ touch_of (name_at tables.now.bundle.now tables.now.properties.now) (layer_in tables.now.bundle.now tables.now.selectors.now) t.old m j s (numbers_in ps) }
 {
     if is_layer(tables.bundle, tables.selectors, s, b"*") {
-        return assign_all(tables, t, m, from, to);
+        return assign_all(tables, t, m, ps);
     }
-    assign_layer(tables, t, m, j, from, to)
+    assign_layer(tables, t, m, j, ps)
 }
 
 // A selector that matched: its layer found or made, and its rule's properties assigned.
@@ -128,18 +110,16 @@ pub fn step(
     t: &mut [u32; 4323],
     n: Layers,
     s: u32,
-    from: u32,
-    to: u32,
+    ps: Properties,
 ) -> Result<Layers, usize>
-    ensures { told result t.new ≡ step_of (name_at tables.now.bundle.now tables.now.properties.now) (layer_in tables.now.bundle.now tables.now.selectors.now) t.old n s (places from (to - from)) }
+    ensures { told result t.new ≡ step_of (name_at tables.now.bundle.now tables.now.properties.now) (layer_in tables.now.bundle.now tables.now.selectors.now) t.old n s (numbers_in ps) }
 {
-    let j = find_layer(tables, &t[..], n, s);
-    if j < n.n {
-        return touch(tables, t, n, Layers { n: j }, s, from, to);
+    if let Some(j) = find_layer(tables, &t[..], n, s) {
+        return touch(tables, t, n, j, s, ps);
     }
     if n.n < 32 {
         new_layer(tables, t, n, s);
-        return touch(tables, t, Layers { n: n.n + 1 }, n, s, from, to);
+        return touch(tables, t, Layers { n: n.n + 1 }, n, s, ps);
     }
     Err(TOO_MANY_LAYERS)
 }

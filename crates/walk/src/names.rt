@@ -1,36 +1,24 @@
 // Names in the tables: a property's, a layer's, and the place of a name among a layer's properties.
-ghost use Rattle.std.specs.Prelude.{◌≡◌};
+ghost use Rattle.std.specs.Prelude.{◌≡◌, length};
 ghost use Rattle.base.specs.Bytes.{same};
 ghost use Rattle.decode.specs.Decode.{name_at};
-ghost use Rattle.walk.specs.Rows.{place_of};
+ghost use Rattle.walk.specs.Rows.{below, place_of};
 ghost use Rattle.walk.specs.Selectors.{layer_in};
 
-use base::Range;
+use table::{range_of, word_of};
 
 // The name of property p.
 pub fn name_of<'a>(bundle: &'a [u8], properties: &[u32], p: u32) -> &'a [u8]
     ensures { result.now ≡ name_at bundle.now properties.now p }
 {
-    let i = p as usize;
-    base::part(
-        bundle,
-        Range {
-            from: table::word_of(properties, i, 1),
-            to: table::word_of(properties, i, 2),
-        },
-    )
+    base::part(bundle, range_of(properties, p as usize, 1))
 }
 
-// The place of a name in a row, or the row's length.
-pub fn find_name(bundle: &[u8], properties: &[u32], row: &[u32], name: &[u8]) -> usize
-    ensures { result ≡ place_of (name_at bundle.now properties.now) row.now name.now }
+// The place of a name in a row.
+pub fn find_name(bundle: &[u8], properties: &[u32], row: &[u32], name: &[u8]) -> Option<usize>
+    ensures { result ≡ below (length row.now) (place_of (name_at bundle.now properties.now) row.now name.now) }
 {
-    for i in 0..row.len() {
-        if base::same_bytes(name, name_of(bundle, properties, row[i])) {
-            return i;
-        }
-    }
-    row.len()
+    row.iter().position(|p| base::same_bytes(name, name_of(bundle, properties, *p)))
 }
 
 // The name of selector s's layer.
@@ -38,16 +26,10 @@ pub fn layer_name<'a>(bundle: &'a [u8], selectors: &[u32], s: u32) -> &'a [u8]
     ensures { result.now ≡ layer_in bundle.now selectors.now s }
 {
     let i = s as usize;
-    if table::word_of(selectors, i, 5) != 1 {
+    if word_of(selectors, i, 5) != 1 {
         return b"default";
     }
-    base::part(
-        bundle,
-        Range {
-            from: table::word_of(selectors, i, 6),
-            to: table::word_of(selectors, i, 7),
-        },
-    )
+    base::part(bundle, range_of(selectors, i, 6))
 }
 
 // Whether selector s is of the layer of this name.

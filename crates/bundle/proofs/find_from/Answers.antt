@@ -1,18 +1,45 @@
 -- The loop of find_from, by what stands at each place.
-use native.Mathlib.Omega.{arith}
-use mathlib.Core.Path.{◌∙◌}
-use Rattle.base.specs.Choice.{via}
-use Rattle.bundle.proofs.Names.{find_end, find_broken, find_here, find_next}
+use Rattle.std.proofs.Common.{◌∙◌, ap, inl, length, arith}
+use Rattle.std.specs.Prelude.{Some}
+use Rattle.bundle.specs.Bundle.{find_in}
+use Rattle.group.specs.Pair.{pairs_left}
+use Rattle.group.proofs.Runs.{run_length}
+use Rattle.bundle.proofs.Names.{find_end, find_here, find_next}
 use Rattle.bundle.proofs.find_from.Goals as goal
 
-pub returns-in_err-a : goal.returns-in_err-a
-returns-in_err-a c = c.from_residual.ensures ∙ find_broken c.args.s.now c.args.name.now c.args.count c.loop-k.k c.loop-k.place (omega arith) (via c.pair_at.ensures c.in_err-a.was) ∙ c.loop-k.invariant
+pub loop-k-init : goal.loop-k-init
+loop-k-init c =
+    let t = c.args.texts in
+    let h = run_length t.count t.s.now t.at in
+    let r = c.ranges.texts in
+    let e = c.into_iter-k-iterator.ensures.into_iter_gives in
+    let n = ap (λ x. x.count) e ∙ c.enumerate-k-items.ensures.count in
+    let u = ap (λ x. x.iter) e ∙ c.enumerate-k-items.ensures.source in (
+      ((tt, tt, inl (omega (arith, n, ap (λ x. length (pairs_left x)) u))), tt),
+      ap (λ k. find_in c.args.s.now c.args.name.now k (pairs_left c.into_iter-k-iterator.result.iter)) n
+          ∙ ap (λ x. find_in c.args.s.now c.args.name.now 0 (pairs_left x)) u,
+    )
 
 pub returns-then-same_bytes : goal.returns-then-same_bytes
-returns-then-same_bytes c = find_here c.args.s.now c.args.name.now c.args.count c.loop-k.k c.loop-k.place (omega arith) _ _ (via c.pair_at.ensures c.in_ok-a.was) _ _ c.part.ensures c.same_bytes.ensures c.if-same_bytes.true ∙ c.loop-k.invariant
+returns-then-same_bytes c =
+    let e = c.in-Some.ensures.steps in
+    let it = c.loop-k.k-iterator in
+    ap (λ k. Some (k, c.in-Some.b)) e.1
+    ∙ find_here c.args.s.now c.args.name.now it.count (pairs_left it.iter) _ _ e.0 _ _ c.part.ensures c.same_bytes.ensures c.if-same_bytes.true
+    ∙ c.loop-k.invariant.1
 
 pub loop-k-preserved : goal.loop-k-preserved
-loop-k-preserved c = find_next c.args.s.now c.args.name.now c.args.count c.loop-k.k c.loop-k.place (omega arith) _ _ (via c.pair_at.ensures c.in_ok-a.was) _ _ c.part.ensures c.same_bytes.ensures c.if-same_bytes.false ∙ c.loop-k.invariant
+loop-k-preserved c =
+    let e = c.in-Some.ensures.steps in
+    let it = c.loop-k.k-iterator in
+    let left = pairs_left c.next.new.self.iter in (
+      (c.in-Some.ensures.goes.keeps, tt),
+      ap (λ k. find_in c.args.s.now c.args.name.now k left) e.2
+          ∙ find_next c.args.s.now c.args.name.now it.count (pairs_left it.iter) _ _ e.0 _ _ c.part.ensures c.same_bytes.ensures c.if-same_bytes.false
+          ∙ c.loop-k.invariant.1,
+    )
 
 pub returns : goal.returns
-returns c = find_end c.args.s.now c.args.name.now c.args.count c.loop-k.k c.loop-k.place (omega arith) ∙ c.loop-k.invariant
+returns c =
+    let it = c.loop-k.k-iterator in
+    find_end c.args.s.now c.args.name.now it.count (pairs_left it.iter) c.in-None.ensures.steps.0.0 ∙ c.loop-k.invariant.1

@@ -21,9 +21,10 @@ returns c = let a = c.args in
     styles_of a.bundle.now a.rules.now a.selectors.now a.tests.now a.properties.now
     a.numbers.now (counts_at a.counts.now) a.zoom s a.entity.now)
     s.ensures)
-    c.count_of.ensures
+    c.styled_layers.ensures.layers
+    c.styled_layers.ensures.few
     t.words_after
     t.floats_after
     t.layers_after
-    c.told_count-five.ensures
+    c.told_styles-five.ensures
     c.store_words.ensures

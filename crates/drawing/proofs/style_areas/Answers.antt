@@ -1,78 +1,124 @@
-use mathlib.Core.Path.{refl, ◌∙◌, subst, ap}
-use mathlib.Core.Bool.{not}
+use Prim.Native.Nat.{◌+◌, ◌-◌, ◌≤◌}
+use mathlib.Core.Path.{◌≡◌, refl, sym, ◌∙◌, subst, ap}
 use native.Mathlib.Omega.{arith}
-use lib.ListN.{length}
+use borrow.Rule.Slice.PartMut.{put_mid, same_len_mid}
+use lib.ListN.{length, take, replicate, length-replicate}
 use lib.Seq.{length-take-le}
-use Rattle.std.specs.Prelude.{ℕ, Result}
+use Rattle.std.specs.Prelude.{ℕ, [], Result}
 use Rattle.base.specs.declared.refusal.Refusal.{Refusal}
 use Rattle.base.proofs.Options.{handed_on}
 use Rattle.order.specs.Keys.{zero_key}
-use Rattle.drawing.specs.Gather.{IsBounded}
+use Rattle.drawing.specs.Gather.{IsBounded, gathered}
 use Rattle.drawing.proofs.GatherLaws.{told_stopped, told_now}
-use Rattle.drawing.proofs.DrawLaws.{zeros, part_length, areas_broken, ways_refused, areas_refused, areas_listed}
-use Rattle.drawing.proofs.StreamLaws.{gather_grows}
+use Rattle.drawing.proofs.GatherLaws as gather
+use Rattle.drawing.proofs.DrawLaws.{zeros, part_length, judged_err, judged_ok, gathered_by, areas_broken, ways_refused, areas_refused, areas_listed}
+use Rattle.drawing.proofs.StreamLaws.{behind_refused, behind_keys, gather_behind, taken_behind}
 use Rattle.drawing.proofs.style_areas.Goals as goal
 
-pub returns-then-not-are_sound : goal.returns-then-not-are_sound
-returns-then-not-are_sound c = let a = c.args in let t = a.tables.now in
-    areas_broken t.bundle.now t.rules.now t.selectors.now t.tests.now t.properties.now t.numbers.now a.n a.zoom
-    a.settings (length a.list.now) _
-    c.are_sound.ensures (ap not c.if-not-are_sound.true) _ c.plain.ensures _
-    c.zero_words.ensures a.ways.now a.multipolygons.now
-
-pub write_list-requires : goal.write_list-requires
-write_list-requires c = let r = c.room_of in
-    let d = subst (IsBounded _) c.in_ok-w.was c.gather.ensures.IsBounded in
-    let b = subst (IsBounded _) c.in_ok-k.was c.gather-2.ensures.IsBounded in
-    let m = length-take-le c.in_ok-w.w c.gather.new.keys (omega (arith, d, c.gather.auto.keys)) in
-    let l = length-take-le c.in_ok-k.k c.gather-2.new.keys (omega (arith, b, c.gather-2.auto.keys)) in
-    let n = part_length zero_key r.result r.ensures.most in (
-      gather_grows _ _ _ _ _ _ _ _ _ _ _ _ _ _ _ _ _ _ refl
-          (told_now _ _ _ _ c.gather-2.ensures.keys_after c.in_ok-k.was) m refl,
-      omega (arith, l, b, n, c.gather.auto.keys),
-      omega (arith, l, b, n, c.gather.auto.keys, r.ensures.fits),
-      zeros _ _ c.zero_words.ensures c.zero_words.auto.t,
-    )
+pub returns-in_err-drawing : goal.returns-in_err-drawing
+returns-in_err-drawing c = let a = c.args in let t = a.tables.now in
+    let f : c.fill.new.self ≡ replicate (length a.list.now) 0 = c.fill.ensures.after (λ y e. e) in
+    let j = judged_err _ _ c.judged.ensures c.in_err-drawing.was in
+    ap (λ (q : Result ℕ Refusal). (q, c.fill.new.self)) (handed_on _ c.from_residual.ensures)
+    ∙ areas_broken t.bundle.now t.rules.now t.selectors.now t.tests.now t.properties.now t.numbers.now a.n a.zoom
+    a.settings (length a.list.now)
+    j.0 _ j.1 _ f a.ways.now a.multipolygons.now
 
 pub returns-in_err-w : goal.returns-in_err-w
 returns-in_err-w c = let a = c.args in let t = a.tables.now in
-    ap (λ (q : Result ℕ Refusal). (q, c.zero_words.new.t)) (handed_on _ c.from_residual.ensures)
+    let j = judged_ok _ _ c.judged.ensures c.in_ok-drawing.was in
+    let f : c.fill.new.self ≡ replicate (length a.list.now) 0 = c.fill.ensures.after (λ y e. e) in
+    let s : length c.fill.new.self ≡ length a.list.now = ap length (c.fill.ensures.after (λ y e. e)) ∙ length-replicate (length a.list.now) 0 in
+    ap (λ (q : Result ℕ Refusal). (q, c.fill.new.self)) (handed_on _ c.from_residual-in_err-w.ensures)
     ∙ ways_refused t.bundle.now t.rules.now t.selectors.now t.tests.now t.properties.now t.numbers.now a.n a.zoom
-    a.settings (length a.list.now) _
-    c.are_sound.ensures (ap not c.if-not-are_sound.false)
-    (length c.zero_words.new.t) c.zero_words.auto.t
+    a.settings (length a.list.now)
+    j.0
+    (length c.fill.new.self) s
     _ (part_length zero_key c.room_of.result c.room_of.ensures.most ∙ c.room_of.ensures.room) _ refl
-    a.ways.now a.multipolygons.now _ refl _
-    (told_stopped _ _ _ _ c.gather.ensures.keys_after c.in_err-w.was) _ c.zero_words.ensures
+    a.ways.now a.multipolygons.now _ (ap (gathered_by _ _ _ a.ways.now []) j.1) _
+    (told_stopped _ _ _ _ c.gather.ensures.keys_after c.in_err-w.was) _ f
 
-pub returns-in_err-k : goal.returns-in_err-k
-returns-in_err-k c = let a = c.args in let t = a.tables.now in
-    let n = part_length zero_key c.room_of.result c.room_of.ensures.most ∙ c.room_of.ensures.room in
-    ap (λ (q : Result ℕ Refusal). (q, c.zero_words.new.t)) (handed_on _ c.from_residual-in_err-k.ensures)
+pub write_list-requires : goal.write_list-requires
+write_list-requires c = let a = c.args in
+    let f : c.fill.new.self ≡ replicate (length a.list.now) 0 = c.fill.ensures.after (λ y e. e) in
+    let s : length c.fill.new.self ≡ length a.list.now = ap length (c.fill.ensures.after (λ y e. e)) ∙ length-replicate (length a.list.now) 0 in
+    let n = part_length zero_key c.room_of.result c.room_of.ensures.most in
+    let w = c.in_ok-w.w in
+    let d = subst (IsBounded _) c.in_ok-w.was c.gather.ensures.IsBounded in
+    let h : w ≤ length c.gather.new.keys = omega (arith, d, c.gather.auto.keys) in
+    let g = gather.part_length c.gather.new.keys w h in
+    let b = subst (IsBounded _) c.in_ok-m.was c.gather-2.ensures.IsBounded in
+    let ks = put_mid w (length c.gather.new.keys - w) c.gather.new.keys c.gather-2.new.keys in
+    let same = same_len_mid w (length c.gather.new.keys - w) c.gather.new.keys c.gather-2.new.keys c.gather-2.auto.keys in
+    let l = length-take-le (w + c.in_ok-m.m) ks (omega (arith, b, same, g)) in
+    (omega (arith, l), omega (arith, l, b, n, g, c.gather.auto.keys), omega (arith, l, b, n, g, c.gather.auto.keys, c.room_of.ensures.fits), zeros _ _ f s)
+
+pub returns-in_err-m : goal.returns-in_err-m
+returns-in_err-m c = let a = c.args in let t = a.tables.now in
+    let j = judged_ok _ _ c.judged.ensures c.in_ok-drawing.was in
+    let drawing = c.in_ok-drawing.drawing in let u = drawing.tables.now in
+    let f : c.fill.new.self ≡ replicate (length a.list.now) 0 = c.fill.ensures.after (λ y e. e) in
+    let s : length c.fill.new.self ≡ length a.list.now = ap length (c.fill.ensures.after (λ y e. e)) ∙ length-replicate (length a.list.now) 0 in
+    let n = part_length zero_key c.room_of.result c.room_of.ensures.most in
+    let w = c.in_ok-w.w in
+    let d = subst (IsBounded _) c.in_ok-w.was c.gather.ensures.IsBounded in
+    let h : w ≤ length c.gather.new.keys = omega (arith, d, c.gather.auto.keys) in
+    let g = gather.part_length c.gather.new.keys w h in
+    ap (λ (q : Result ℕ Refusal). (q, c.fill.new.self)) (handed_on _ c.from_residual-in_err-m.ensures)
     ∙ areas_refused t.bundle.now t.rules.now t.selectors.now t.tests.now t.properties.now t.numbers.now a.n a.zoom
-    a.settings (length a.list.now) _
-    c.are_sound.ensures (ap not c.if-not-are_sound.false)
-    (length c.zero_words.new.t) c.zero_words.auto.t
-    _ n _ refl
-    a.ways.now a.multipolygons.now _ refl _
+    a.settings (length a.list.now)
+    j.0
+    (length c.fill.new.self) s
+    _ (n ∙ c.room_of.ensures.room) _ refl
+    a.ways.now a.multipolygons.now _ (ap (gathered_by _ _ _ a.ways.now []) j.1) _
     (told_now _ _ _ _ c.gather.ensures.keys_after c.in_ok-w.was)
-    _ (c.gather.auto.keys ∙ n) _ refl _
-    (told_stopped _ _ _ _ c.gather-2.ensures.keys_after c.in_err-k.was) _ c.zero_words.ensures
+    _ (c.gather.auto.keys ∙ n ∙ c.room_of.ensures.room) _
+    (gather_behind (take w c.gather.new.keys) (length c.gather.new.keys) _
+    (omega (arith, length-take-le w c.gather.new.keys h, g))
+    u.bundle.now u.rules.now u.selectors.now u.tests.now u.properties.now u.numbers.now drawing.total drawing.zoom drawing.for_labels _ _ a.multipolygons.now
+    ∙ ap (gathered_by _ _ _ a.multipolygons.now _) j.1)
+    _ (behind_refused _ _ _ (told_stopped _ _ _ _ c.gather-2.ensures.keys_after c.in_err-m.was)) _ f
 
 pub returns : goal.returns
 returns c = let a = c.args in let t = a.tables.now in
-    let n = part_length zero_key c.room_of.result c.room_of.ensures.most ∙ c.room_of.ensures.room in
+    let j = judged_ok _ _ c.judged.ensures c.in_ok-drawing.was in
+    let drawing = c.in_ok-drawing.drawing in let u = drawing.tables.now in
+    let f : c.fill.new.self ≡ replicate (length a.list.now) 0 = c.fill.ensures.after (λ y e. e) in
+    let s : length c.fill.new.self ≡ length a.list.now = ap length (c.fill.ensures.after (λ y e. e)) ∙ length-replicate (length a.list.now) 0 in
+    let n = part_length zero_key c.room_of.result c.room_of.ensures.most in
+    let w = c.in_ok-w.w in
     let d = subst (IsBounded _) c.in_ok-w.was c.gather.ensures.IsBounded in
-    let b = subst (IsBounded _) c.in_ok-k.was c.gather-2.ensures.IsBounded in
-    let m = length-take-le c.in_ok-w.w c.gather.new.keys (omega (arith, d, c.gather.auto.keys)) in
-    let l = length-take-le c.in_ok-k.k c.gather-2.new.keys (omega (arith, b, c.gather-2.auto.keys)) in
+    let h : w ≤ length c.gather.new.keys = omega (arith, d, c.gather.auto.keys) in
+    let g = gather.part_length c.gather.new.keys w h in
+    let b = subst (IsBounded _) c.in_ok-m.was c.gather-2.ensures.IsBounded in
+    let ks = put_mid w (length c.gather.new.keys - w) c.gather.new.keys c.gather-2.new.keys in
+    let same = same_len_mid w (length c.gather.new.keys - w) c.gather.new.keys c.gather-2.new.keys c.gather-2.auto.keys in
+    let l = length-take-le (w + c.in_ok-m.m) ks (omega (arith, b, same, g)) in
     areas_listed t.bundle.now t.rules.now t.selectors.now t.tests.now t.properties.now t.numbers.now a.n a.zoom
-    a.settings (length a.list.now) _
-    c.are_sound.ensures (ap not c.if-not-are_sound.false)
-    (length c.zero_words.new.t) c.zero_words.auto.t
-    _ n _ refl
-    a.ways.now a.multipolygons.now _ refl _
+    a.settings (length a.list.now)
+    j.0
+    (length c.fill.new.self) s
+    _ (n ∙ c.room_of.ensures.room) _ refl
+    a.ways.now a.multipolygons.now _ (ap (gathered_by _ _ _ a.ways.now []) j.1) _
     (told_now _ _ _ _ c.gather.ensures.keys_after c.in_ok-w.was)
-    _ (c.gather.auto.keys ∙ n) _ refl _
-    (told_now _ _ _ _ c.gather-2.ensures.keys_after c.in_ok-k.was)
-    _ _ m l _ c.write_list.ensures
+    _ (c.gather.auto.keys ∙ n ∙ c.room_of.ensures.room) _
+    (gather_behind (take w c.gather.new.keys) (length c.gather.new.keys) _
+    (omega (arith, length-take-le w c.gather.new.keys h, g))
+    u.bundle.now u.rules.now u.selectors.now u.tests.now u.properties.now u.numbers.now drawing.total drawing.zoom drawing.for_labels _ _ a.multipolygons.now
+    ∙ ap (gathered_by _ _ _ a.multipolygons.now _) j.1)
+    (take (w + c.in_ok-m.m) ks)
+    (behind_keys _ _ _ (told_now _ _ _ _ c.gather-2.ensures.keys_after c.in_ok-m.was)
+    ∙ ap gathered (sym (taken_behind c.gather.new.keys c.gather-2.new.keys _ w c.in_ok-m.m h (omega (arith, b, c.gather-2.auto.keys)))))
+    _ _ (length-take-le w c.gather.new.keys h) l _ c.write_list.ensures
+
+pub offset_bounds-free-w : goal.offset_bounds-free-w
+offset_bounds-free-w c =
+    let d = subst (IsBounded _) c.in_ok-w.was c.gather.ensures.IsBounded in
+    omega (arith, d, c.gather.auto.keys, part_length zero_key c.room_of.result c.room_of.ensures.most, c.room_of.ensures.most)
+
+pub overflow_add-k : goal.overflow_add-k
+overflow_add-k c =
+    let d = subst (IsBounded _) c.in_ok-w.was c.gather.ensures.IsBounded in
+    let g = gather.part_length c.gather.new.keys c.in_ok-w.w (omega (arith, d, c.gather.auto.keys)) in
+    let b = subst (IsBounded _) c.in_ok-m.was c.gather-2.ensures.IsBounded in
+    omega (arith, d, b, g, c.gather.auto.keys, part_length zero_key c.room_of.result c.room_of.ensures.most, c.room_of.ensures.most)

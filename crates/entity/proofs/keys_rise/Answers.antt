@@ -1,14 +1,13 @@
-use native.Mathlib.Omega.{arith}
-use Rattle.base.specs.Choice.{via}
-use Rattle.entity.proofs.Keys.{rising_end, rising_first}
-use Rattle.group.proofs.Pairs.{entries_end, entries_broken, entries_two}
+use Rattle.std.proofs.Common.{◌∙◌, ap, map, rules, tests}
+use Rattle.base.specs.Map.{key_of}
+use Rattle.group.specs.Pair.{entries_at, named}
+use Rattle.entity.specs.Layout.{rising}
+use Rattle.entity.proofs.Keys.{keys_sorted}
 use Rattle.entity.proofs.keys_rise.Goals as goal
 
-pub returns-then-count-eq0 : goal.returns-then-count-eq0
-returns-then-count-eq0 c = rising_end _ (entries_end c.args.count c.args.s.now c.args.at (omega arith))
-
-pub returns-in_default : goal.returns-in_default
-returns-in_default c = rising_end _ (entries_broken c.args.count c.args.s.now c.args.at (omega arith) (via c.pair_at.ensures c.in_default.is))
-
 pub returns : goal.returns
-returns c = rising_first _ _ _ (entries_two c.args.count c.args.s.now c.args.at _ _ (omega arith) (via c.pair_at.ensures c.in-Some.is)) _ c.rise_from.ensures
+unfolding entries_at
+returns c =
+    let s = c.args.s.now in
+    keys_sorted _ _ s (λ p q r f k. search (rules, tests)) c.new.result c.is_sorted_by.result c.is_sorted_by.ensures.ran
+    ∙ ap (λ ps. rising (map key_of (map (named s) ps))) c.new.ensures

@@ -8,7 +8,7 @@ use Rattle.std.specs.Prelude.{Err}
 
 pub returns-then-s-gt1048576 : goal.returns-then-s-gt1048576
 unfolding next_of tags_of
-returns-then-s-gt1048576 c = if_true _ _ _ (lt-ltb _ _ c.if-s-gt1048576.true) (ap Err c.of_entity.ensures)
+returns-then-s-gt1048576 c = if_true _ _ _ (lt-ltb _ _ c.if-s-gt1048576.true) (ap Err c.refuse.ensures)
 
 pub returns-then-s-at : goal.returns-then-s-at
 unfolding next_of tags_of
@@ -20,8 +20,8 @@ returns-then-pairs_utf8 c = if_false _ _ _ (le-ltb _ _ c.if-s-gt1048576.false) (
 
 pub returns-in_default : goal.returns-in_default
 unfolding next_of tags_of
-returns-in_default c = if_false _ _ _ (le-ltb _ _ c.if-s-gt1048576.false) (if_false _ _ _ (lt-leb _ _ c.if-s-at.false) (option_none _ _ _ (via c.entity_at.ensures c.in_default.is) (ap Err c.of_entity-in_default.ensures)))
+returns-in_default c = if_false _ _ _ (le-ltb _ _ c.if-s-gt1048576.false) (if_false _ _ _ (lt-leb _ _ c.if-s-at.false) (option_none _ _ _ (via c.entity_at.ensures c.in_default.is) (ap Err c.refuse-in_default.ensures)))
 
 pub returns : goal.returns
 unfolding next_of tags_of
-returns c = if_false _ _ _ (le-ltb _ _ c.if-s-gt1048576.false) (if_false _ _ _ (lt-leb _ _ c.if-s-at.false) (option_some _ _ _ (via c.entity_at.ensures c.in-Some.is) (if_false _ _ _ (via c.pairs_utf8.ensures c.if-pairs_utf8.false) (ap Err c.of_entity-2.ensures))))
+returns c = if_false _ _ _ (le-ltb _ _ c.if-s-gt1048576.false) (if_false _ _ _ (lt-leb _ _ c.if-s-at.false) (option_some _ _ _ (via c.entity_at.ensures c.in-Some.is) (if_false _ _ _ (via c.pairs_utf8.ensures c.if-pairs_utf8.false) (ap Err c.refuse-2.ensures))))

@@ -5,7 +5,7 @@ use mathlib.Core.Path.{◌∙◌, ap}
 use Rattle.base.specs.Choice.{via}
 use Rattle.entity.specs.Layout.{nth_from}
 use Rattle.entity.proofs.Nth.{nth_none, nth_here, nth_later}
-use Rattle.group.proofs.Pairs.{less_one}
+use Rattle.group.proofs.Runs.{less_one}
 use Rattle.entity.proofs.nth_entity.Goals as goal
 
 pub returns-in_err-e : goal.returns-in_err-e

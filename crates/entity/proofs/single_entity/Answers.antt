@@ -8,7 +8,7 @@ use Rattle.base.specs.Option.{option_none, option_some}
 
 pub returns-then-e-s : goal.returns-then-e-s
 unfolding single_of tags_of
-returns-then-e-s c = option_some _ _ _ (via c.entity_at.ensures c.in-Some.is) (if_false _ _ _ (ne_eqb _ _ c.if-e-s.true) (ap Err c.of_entity-then-e-s.ensures))
+returns-then-e-s c = option_some _ _ _ (via c.entity_at.ensures c.in-Some.is) (if_false _ _ _ (ne_eqb _ _ c.if-e-s.true) (ap Err c.refuse-then-e-s.ensures))
 
 pub returns-then-pairs_utf8 : goal.returns-then-pairs_utf8
 unfolding single_of tags_of
@@ -16,8 +16,8 @@ returns-then-pairs_utf8 c = option_some _ _ _ (via c.entity_at.ensures c.in-Some
 
 pub returns-in_default : goal.returns-in_default
 unfolding single_of tags_of
-returns-in_default c = option_none _ _ _ (via c.entity_at.ensures c.in_default.is) (ap Err c.of_entity.ensures)
+returns-in_default c = option_none _ _ _ (via c.entity_at.ensures c.in_default.is) (ap Err c.refuse.ensures)
 
 pub returns : goal.returns
 unfolding single_of tags_of
-returns c = option_some _ _ _ (via c.entity_at.ensures c.in-Some.is) (if_true _ _ _ (eq-eqb _ _ c.if-e-s.false) (if_false _ _ _ (via c.pairs_utf8.ensures c.if-pairs_utf8.false) (ap Err c.of_entity-2.ensures)))
+returns c = option_some _ _ _ (via c.entity_at.ensures c.in-Some.is) (if_true _ _ _ (eq-eqb _ _ c.if-e-s.false) (if_false _ _ _ (via c.pairs_utf8.ensures c.if-pairs_utf8.false) (ap Err c.refuse-2.ensures)))

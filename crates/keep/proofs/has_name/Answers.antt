@@ -3,4 +3,4 @@ use mathlib.Core.Path.{◌∙◌}
 use Rattle.keep.proofs.has_name.Goals as goal
 
 pub returns : goal.returns
-returns c = c.same_bytes.ensures ∙ has_name c.args.bundle.now c.args.colors.now c.args.i _ _ _ _ c.word_of-from.ensures c.word_of-to.ensures c.part.ensures
+returns c = c.same_bytes.ensures ∙ has_name c.args.bundle.now c.args.colors.now c.args.i _ _ _ c.range_of.ensures c.part.ensures

@@ -1,14 +1,19 @@
-use Rattle.line.proofs.LineLaws.{refusal_done}
+use borrow.Author.Rules.{rules}
+use mathlib.Core.Path.{refl, ◌∙◌, ap}
+use Rattle.line.proofs.LineLaws.{numbers_more, refusal_done}
 use Rattle.line.proofs.refusal_line.Goals as goal
 
+pub loop-x-init : goal.loop-x-init
+loop-x-init c = (refl, refl)
+
+pub loop-x-preserved : goal.loop-x-preserved
+loop-x-preserved c = (
+  numbers_more _ _ _ c.loop-x.x-index c.numbers-x-items.ensures c.loop-x-test.true c.put_number.ensures.put ∙ c.loop-x.invariant.0,
+  c.put_number.ensures.same_reference ∙ c.loop-x.invariant.1,
+)
+
 pub returns : goal.returns
-returns c = let a =
-    c.args in
-    refusal_done a.out.now a.e
-    c.put_bytes-a.ensures
-    c.put_number-b.ensures
-    c.put_number-c.ensures
-    c.put_number-d.ensures
-    c.put_number-f.ensures
-    c.put_number-g.ensures
-    c.put_byte.ensures
+returns c =
+    ap (λ o. (c.put_byte.new.self.n, o)) (search rules)
+    ∙ refusal_done _ c.args.out.now c.args.e _ c.loop-x.x-index c.numbers-x-items.ensures c.loop-x-test.false
+    c.put_bytes.ensures.put c.loop-x.invariant.0 c.put_byte.ensures.put

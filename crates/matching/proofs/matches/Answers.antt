@@ -1,10 +1,11 @@
-use mathlib.Core.Path.{◌∙◌, ap}
+use mathlib.Core.Path.{◌∙◌, sym, ap}
 use mathlib.Core.List.{map}
 use Rattle.entity.specs.Layout.{value_of}
 use Rattle.cascade.specs.Match.{fits_type, tests_verdict}
-use Rattle.decode.specs.Decode.{test_at, type_at, places_in, selector_in}
-use Rattle.matching.specs.Matching.{fit_of}
-use Rattle.matching.proofs.Selectors.{beyond, other_type, right_type}
+use Rattle.decode.specs.Decode.{test_at, places_in, selector_in}
+use Rattle.matching.specs.Matching.{fit_of, type_of}
+use Rattle.table.specs.Kind.{object_kind}
+use Rattle.matching.proofs.Selectors.{beyond, other_type, right_type, type_is}
 use Rattle.matching.proofs.matches.Goals as goal
 
 pub returns-then-fits_type : goal.returns-then-fits_type
@@ -12,8 +13,8 @@ unfolding value_of
 returns-then-fits_type c = right_type
     c.args.zoom
     (value_of
-    c.args.entity.now
-    c.args.e)
+    c.args.entity.bytes.now
+    c.args.entity.range)
     (selector_in
     c.args.tables.now.bundle.now
     c.args.tables.now.selectors.now
@@ -23,11 +24,7 @@ returns-then-fits_type c = right_type
     _
     c.fits_zoom.ensures
     c.if-fits_zoom.true _
-    (c.fits_type.ensures
-    ∙ ap
-    (λ k.
-    fits_type (type_at k)
-    c.args.e.kind) c.word_of.ensures)
+    (c.fits_type.ensures ∙ ap (λ o. fits_type o c.args.entity.range.kind) (ap type_of (c.of-kind.ensures ∙ ap object_kind c.word_of.ensures) ∙ sym (type_is _)))
     c.if-fits_type.true _
     (c.tests_fit.ensures
     ∙ ap
@@ -35,8 +32,8 @@ returns-then-fits_type c = right_type
     fit_of
     (tests_verdict
     (value_of
-    c.args.entity.now
-    c.args.e)
+    c.args.entity.bytes.now
+    c.args.entity.range)
     (map
     (test_at
     c.args.tables.now.bundle.now
@@ -48,8 +45,8 @@ unfolding value_of
 returns-then-fits_zoom c = other_type
     c.args.zoom
     (value_of
-    c.args.entity.now
-    c.args.e)
+    c.args.entity.bytes.now
+    c.args.entity.range)
     (selector_in
     c.args.tables.now.bundle.now
     c.args.tables.now.selectors.now
@@ -57,19 +54,14 @@ returns-then-fits_zoom c = other_type
     c.args.tables.now.numbers.now
     c.args.i) _
     c.fits_zoom.ensures c.if-fits_zoom.true _
-    (c.fits_type.ensures
-    ∙ ap
-    (λ k.
-    fits_type (type_at k)
-    c.args.e.kind)
-    c.word_of.ensures) c.if-fits_type.false
+    (c.fits_type.ensures ∙ ap (λ o. fits_type o c.args.entity.range.kind) (ap type_of (c.of-kind.ensures ∙ ap object_kind c.word_of.ensures) ∙ sym (type_is _))) c.if-fits_type.false
 
 pub returns : goal.returns
 returns c = beyond
     c.args.zoom
     (value_of
-    c.args.entity.now
-    c.args.e)
+    c.args.entity.bytes.now
+    c.args.entity.range)
     (selector_in
     c.args.tables.now.bundle.now
     c.args.tables.now.selectors.now

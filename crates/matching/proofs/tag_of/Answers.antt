@@ -6,11 +6,11 @@ pub returns-then-word_of-eq1 : goal.returns-then-word_of-eq1
 returns-then-word_of-eq1 c = tag_joined
     c.args.tables.now.bundle.now
     c.args.tables.now.tests.now
-    c.args.entity.now
+    c.args.entity.bytes.now
     (pairs_at
-    c.args.e.count
-    c.args.entity.now
-    c.args.e.tags)
+    c.args.entity.range.count
+    c.args.entity.bytes.now
+    c.args.entity.range.tags)
     c.args.i _
     c.word_of.ensures _ _ _
     c.range_of.ensures
@@ -21,11 +21,11 @@ pub returns : goal.returns
 returns c = tag_plain
     c.args.tables.now.bundle.now
     c.args.tables.now.tests.now
-    c.args.entity.now
+    c.args.entity.bytes.now
     (pairs_at
-    c.args.e.count
-    c.args.entity.now
-    c.args.e.tags)
+    c.args.entity.range.count
+    c.args.entity.bytes.now
+    c.args.entity.range.tags)
     c.args.i _
     c.word_of.ensures _ _ _ c.range_of.ensures
     c.part-first.ensures c.if-word_of-eq1.false c.get_by_key.ensures

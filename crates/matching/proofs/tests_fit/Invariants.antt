@@ -6,5 +6,5 @@ use Rattle.matching.proofs.Selectors.{left_fit}
 use Rattle.matching.proofs.tests_fit.Given as goal
 
 abbrev pub invariant-loop-k : goal.invariant-loop-k
-invariant-loop-k l = left_fit (value_of l.entity l.e) (test_at l.tables.bundle.now l.tables.tests.now l.tables.numbers.now) l.fn.range.to l.k
-    ≡ left_fit (value_of l.entity l.e) (test_at l.tables.bundle.now l.tables.tests.now l.tables.numbers.now) l.fn.range.to l.fn.range.from
+invariant-loop-k l = left_fit (value_of l.entity.bytes.now l.entity.range) (test_at l.tables.bundle.now l.tables.tests.now l.tables.numbers.now) l.fn.range.to l.k
+    ≡ left_fit (value_of l.entity.bytes.now l.entity.range) (test_at l.tables.bundle.now l.tables.tests.now l.tables.numbers.now) l.fn.range.to l.fn.range.from

@@ -7,18 +7,18 @@ use Rattle.printing.proofs.styled.Goals as goal
 pub returns-in-Err : goal.returns-in-Err
 returns-in-Err c = let a = c.args in
     styled_not a.bundle.now a.entity.now a.zoom a.b _
-    (room_is (length a.rules.now) (length a.selectors.now) (length a.tests.now)
-    (length a.properties.now) (length a.numbers.now) (length a.colors.now)
+    (room_is (length a.buffers.now.rules) (length a.buffers.now.selectors) (length a.buffers.now.tests)
+    (length a.buffers.now.properties) (length a.buffers.now.numbers) (length a.buffers.now.colors)
     (omega arith) (omega arith) (omega arith) (omega arith) (omega arith) (omega arith))
-    _ _ _ _ c.load.ensures c.in-Err.is
-    (zeroed 0 (length a.maps.now) 4323 _ c.zero_words.ensures (omega arith))
+    _ _ _ _ c.load-loaded.ensures c.in-Err.is
+    (zeroed 0 (length a.buffers.now.maps) 4323 _ (c.fill.ensures.after (λ y e. e)) (omega arith))
 
 pub returns-in_err-k-in-Ok : goal.returns-in_err-k-in-Ok
 returns-in_err-k-in-Ok c = let a =
     c.args in
     styled_refused a.bundle.now a.entity.now a.zoom a.b _
-    (room_is (length a.rules.now) (length a.selectors.now) (length a.tests.now)
-    (length a.properties.now) (length a.numbers.now) (length a.colors.now)
+    (room_is (length a.buffers.now.rules) (length a.buffers.now.selectors) (length a.buffers.now.tests)
+    (length a.buffers.now.properties) (length a.buffers.now.numbers) (length a.buffers.now.colors)
     (omega arith)
     (omega arith)
     (omega arith)
@@ -26,9 +26,9 @@ returns-in_err-k-in-Ok c = let a =
     (omega arith)
     (omega arith))
     _ _ _ _ _ _ _ _ _ _ _ _
-    c.load.ensures
+    c.load-loaded.ensures
     c.in-Ok.is
-    c.five_of.ensures
+    c.from.ensures
     c.property_maps.ensures.maps_after c.in_err-k-in-Ok.was _
     (handed_on _ c.from_residual.ensures)
 
@@ -36,8 +36,8 @@ pub returns-in_ok-k-in-Ok : goal.returns-in_ok-k-in-Ok
 returns-in_ok-k-in-Ok c = let a =
     c.args in
     styled_maps a.bundle.now a.entity.now a.zoom a.b _
-    (room_is (length a.rules.now) (length a.selectors.now) (length a.tests.now)
-    (length a.properties.now) (length a.numbers.now) (length a.colors.now)
+    (room_is (length a.buffers.now.rules) (length a.buffers.now.selectors) (length a.buffers.now.tests)
+    (length a.buffers.now.properties) (length a.buffers.now.numbers) (length a.buffers.now.colors)
     (omega arith)
     (omega arith)
     (omega arith)
@@ -45,7 +45,7 @@ returns-in_ok-k-in-Ok c = let a =
     (omega arith)
     (omega arith))
     _ _ _ _ _ _ _ _ _ _ _ _
-    c.load.ensures
+    c.load-loaded.ensures
     c.in-Ok.is
-    c.five_of.ensures
+    c.from.ensures
     c.property_maps.ensures.maps_after c.in_ok-k-in-Ok.was

@@ -29,8 +29,8 @@ unfolding read_properties
 returns-in_err-f c = rw (handed_on _ c.from_residual-in_err-f.ensures) (λ τ f h. goes_end (Reads _ _) _ _ _ _ _ _ (c.loop-head.invariant.0 τ f h) (λ k l. next_one (Reads _ _ _ _ _) (c.read_head.ensures _ _ _) c.in_ok-head.was c.in-Some.is (λ m1. lead_stop (Reads _ _ _ _ _) (c.read_property.ensures τ k _ (omega arith)) c.in_err-f.was (λ e τ p. refuses p))))
 
 pub loop-head-smaller : goal.loop-head-smaller
-loop-head-smaller c = omega (arith, (next_one (λ a. left c.args.bundle.now c.args.source c.in_ok-head.d < left c.args.bundle.now c.args.source c.loop-head.at) (c.read_head.ensures (lent c.args.n [] [] [] [] [] []) (λ d. read [] d (lent c.args.n [] [] [] [] [] [])) (λ y d. read [] d (lent c.args.n [] [] [] [] [] []))) c.in_ok-head.was c.in-Some.is (λ m. m)), (lead_on (λ a. left c.args.bundle.now c.args.source c.in_ok-f.f ≤ left c.args.bundle.now c.args.source c.in_ok-head.d) (c.read_property.ensures (lent c.args.n [] [] [] [] [] []) (suc (left c.args.bundle.now c.args.source c.in_ok-head.d)) (λ x d τ. read [] d τ) (omega arith)) c.in_ok-f.was (λ x l. l)))
+loop-head-smaller c = omega (arith, (next_one (λ a. left c.args.text.bundle.now c.args.text.source c.in_ok-head.d < left c.args.text.bundle.now c.args.text.source c.loop-head.at) (c.read_head.ensures (lent c.args.n [] [] [] [] [] []) (λ d. read [] d (lent c.args.n [] [] [] [] [] [])) (λ y d. read [] d (lent c.args.n [] [] [] [] [] []))) c.in_ok-head.was c.in-Some.is (λ m. m)), (lead_on (λ a. left c.args.text.bundle.now c.args.text.source c.in_ok-f.f ≤ left c.args.text.bundle.now c.args.text.source c.in_ok-head.d) (c.read_property.ensures (lent c.args.n [] [] [] [] [] []) (suc (left c.args.text.bundle.now c.args.text.source c.in_ok-head.d)) (λ x d τ. read [] d τ) (omega arith)) c.in_ok-f.was (λ x l. l)))
 
 pub loop-head-preserved : goal.loop-head-preserved
 unfolding read_properties
-loop-head-preserved c = (λ τ f h. goes_on (Reads _ _) _ _ _ _ _ _ _ _ (c.loop-head.invariant.0 τ f h) (omega (arith, (next_one (λ a. left c.args.bundle.now c.args.source c.in_ok-head.d < left c.args.bundle.now c.args.source c.loop-head.at) (c.read_head.ensures (lent c.args.n [] [] [] [] [] []) (λ d. read [] d (lent c.args.n [] [] [] [] [] [])) (λ y d. read [] d (lent c.args.n [] [] [] [] [] []))) c.in_ok-head.was c.in-Some.is (λ m. m)), (lead_on (λ a. left c.args.bundle.now c.args.source c.in_ok-f.f ≤ left c.args.bundle.now c.args.source c.in_ok-head.d) (c.read_property.ensures (lent c.args.n [] [] [] [] [] []) (suc (left c.args.bundle.now c.args.source c.in_ok-head.d)) (λ x d τ. read [] d τ) (omega arith)) c.in_ok-f.was (λ x l. l)))) (λ k l t r q. next_one (Reads _ _ _ _ _) (c.read_head.ensures _ _ _) c.in_ok-head.was c.in-Some.is (λ m1. lead_on (Reads _ _ _ _ _) (c.read_property.ensures τ k _ (omega arith)) c.in_ok-f.was (λ x m2. widen (omega arith) (after_reads _ _ q)))), (omega (arith, c.read_property.auto.properties, c.loop-head.invariant.1.0), omega (arith, c.read_property.auto.numbers, c.loop-head.invariant.1.1)))
+loop-head-preserved c = (λ τ f h. goes_on (Reads _ _) _ _ _ _ _ _ _ _ (c.loop-head.invariant.0 τ f h) (omega (arith, (next_one (λ a. left c.args.text.bundle.now c.args.text.source c.in_ok-head.d < left c.args.text.bundle.now c.args.text.source c.loop-head.at) (c.read_head.ensures (lent c.args.n [] [] [] [] [] []) (λ d. read [] d (lent c.args.n [] [] [] [] [] [])) (λ y d. read [] d (lent c.args.n [] [] [] [] [] []))) c.in_ok-head.was c.in-Some.is (λ m. m)), (lead_on (λ a. left c.args.text.bundle.now c.args.text.source c.in_ok-f.f ≤ left c.args.text.bundle.now c.args.text.source c.in_ok-head.d) (c.read_property.ensures (lent c.args.n [] [] [] [] [] []) (suc (left c.args.text.bundle.now c.args.text.source c.in_ok-head.d)) (λ x d τ. read [] d τ) (omega arith)) c.in_ok-f.was (λ x l. l)))) (λ k l t r q. next_one (Reads _ _ _ _ _) (c.read_head.ensures _ _ _) c.in_ok-head.was c.in-Some.is (λ m1. lead_on (Reads _ _ _ _ _) (c.read_property.ensures τ k _ (omega arith)) c.in_ok-f.was (λ x m2. widen (omega arith) (after_reads _ _ q)))), (omega (arith, c.read_property.auto.properties, c.loop-head.invariant.1.0), omega (arith, c.read_property.auto.numbers, c.loop-head.invariant.1.1)))

@@ -13,11 +13,11 @@ use Rattle.properties.proofs.read_properties.Given as goal
 
 abbrev pub invariant-loop-head : goal.invariant-loop-head
 invariant-loop-head l = ((τ : Lent) (f : ℕ)
-    → left l.bundle l.source l.initial.at < f
-    → Goes (Reads l.bundle l.source) l.bundle l.source (left l.bundle l.source l.initial.at)
-    (read_properties (reading l.bundle) f (colors_of l.bundle l.colors l.known) (spot l.source l.initial.at) (at_properties τ l.initial.properties l.initial.numbers l.initial.k)) l.at
-    (λ f. read_properties (reading l.bundle) f (colors_of l.bundle l.colors l.known) (spot l.source l.at) (at_properties τ l.properties l.numbers l.k)))
+    → left l.text.bundle.now l.text.source l.initial.at < f
+    → Goes (Reads l.text.bundle.now l.text.source) l.text.bundle.now l.text.source (left l.text.bundle.now l.text.source l.initial.at)
+    (read_properties (reading l.text.bundle.now) f (colors_of l.text.bundle.now l.known.colors.now l.known.n) (spot l.text.source l.initial.at) (at_properties τ l.initial.properties l.initial.numbers l.initial.k)) l.at
+    (λ f. read_properties (reading l.text.bundle.now) f (colors_of l.text.bundle.now l.known.colors.now l.known.n) (spot l.text.source l.at) (at_properties τ l.properties l.numbers l.k)))
     × ((length l.properties ≡ length l.initial.properties) × (length l.numbers ≡ length l.initial.numbers))
 
 abbrev pub decreases-loop-head : goal.decreases-loop-head
-decreases-loop-head l = left l.bundle l.source l.at
+decreases-loop-head l = left l.text.bundle.now l.text.source l.at

@@ -14,4 +14,4 @@ pub returns-in_err-value : goal.returns-in_err-value
 returns-in_err-value c = rw (handed_on _ c.from_residual-in_err-value.ensures) (λ τ k K h. beyond (Leads _ _ _ _ _ _) _ _ _ _ _ _ (via c.expect_colon.ensures c.in_ok-d.was) (λ m1. after_bad (Leads _ _ _ _ _ _) _ (c.read_property_value.ensures (at_properties τ c.args.properties.now c.args.numbers.now c.args.n) k (omega arith)) c.in_err-value.was (λ e τ p. stops p)))
 
 pub returns : goal.returns
-returns c = λ τ k K h. beyond (Leads _ _ _ _ _ _) _ _ _ _ _ _ (via c.expect_colon.ensures c.in_ok-d.was) (λ m1. after_good (Leads _ _ _ _ _ _) _ (c.read_property_value.ensures (at_properties τ c.args.properties.now c.args.numbers.now c.args.n) k (omega arith)) c.in_ok-value.was (λ x l w. widen_leads (omega arith) (c.store_property.ensures c.args.bundle.now (at_properties τ c.args.properties.now c.read_property_value.new.numbers c.args.n) x K w)))
+returns c = λ τ k K h. beyond (Leads _ _ _ _ _ _) _ _ _ _ _ _ (via c.expect_colon.ensures c.in_ok-d.was) (λ m1. after_good (Leads _ _ _ _ _ _) _ (c.read_property_value.ensures (at_properties τ c.args.properties.now c.args.numbers.now c.args.n) k (omega arith)) c.in_ok-value.was (λ x l w. widen_leads (omega arith) (c.store_property.ensures c.args.text.bundle.now (at_properties τ c.args.properties.now c.read_property_value.new.numbers c.args.n) x K w)))

@@ -1,16 +1,13 @@
-use mathlib.Core.Path.{◌∙◌}
+use mathlib.Core.Path.{◌∙◌, refl}
 use Rattle.base.proofs.Options.{handed_on, or_some, or_none, or_err}
-use mathlib.Core.Path.{sym, ap}
 use Rattle.base.specs.Choice.{via}
 use Rattle.properties.specs.Answers.{Values, bad_value}
 use Rattle.properties.proofs.ValueLaws.{no_reference, reference}
-use Rattle.table.specs.Value.{color_at}
 use Rattle.grammar.specs.Reading.{colored}
-use Rattle.table.specs.declared.PropertyValue.TheVariants.{Shade}
 use Rattle.properties.proofs.read_reference.Goals as goal
 
-pub returns-in_err-i : goal.returns-in_err-i
-returns-in_err-i c = rw (handed_on _ c.from_residual.ensures) (λ τ. no_reference c.args.bundle.now c.args.colors.now c.args.name (Values _ _ _ _ _) _ _ _ (via c.find_color.ensures (or_none c.ok_or.ensures.ok_part c.in_err-i.was)) (bad_value (or_err _ c.ok_or.ensures.value c.in_err-i.was ∙ c.refuse_reached.ensures)))
+pub returns-in_err-shade : goal.returns-in_err-shade
+returns-in_err-shade c = rw (handed_on _ c.from_residual.ensures) (λ τ. no_reference c.args.text.bundle.now c.args.known.colors.now c.args.name (Values _ _ _ _ _) _ _ _ (via c.find.ensures (or_none c.ok_or.ensures.ok_part c.in_err-shade.was)) (bad_value (or_err _ c.ok_or.ensures.value c.in_err-shade.was ∙ c.refuse_reached.ensures)))
 
 pub returns : goal.returns
-returns c = λ τ. reference c.args.bundle.now c.args.colors.now c.args.name (Values _ _ _ _ _) _ _ _ (via c.find_color.ensures (or_some c.ok_or.ensures.ok_part c.in_ok-i.was)) ((c.end_value.ensures (colored (color_at c.args.colors.now c.in_ok-i.i)) (ap Shade (sym c.color_at.ensures)) τ))
+returns c = λ τ. reference c.args.text.bundle.now c.args.known.colors.now c.args.name (Values _ _ _ _ _) _ _ _ (via c.find.ensures (or_some c.ok_or.ensures.ok_part c.in_ok-shade.was)) (c.end_value.ensures (colored c.in_ok-shade.shade) refl τ)

@@ -7,7 +7,7 @@ use Rattle.rules.proofs.RuleLaws.{no_room_selector, room_selector}
 use Rattle.rules.proofs.store_selector.Goals as goal
 
 pub returns-in_err-m : goal.returns-in_err-m
-returns-in_err-m c = rw (handed_on _ c.from_residual.ensures) (λ bundle τ σ h. no_room_selector (Selects _ _ _ _ _) _ c.args.source _ _ _ _ _ c.args.c _ _ h (via_with (rw c.kind_number.ensures at c.keep_selector.ensures) (or_none c.ok_or.ensures.ok_part c.in_err-m.was)) (no_selector (or_err _ c.ok_or.ensures.value c.in_err-m.was ∙ c.refuse_reached.ensures)))
+returns-in_err-m c = rw (handed_on _ c.from_residual.ensures) (λ bundle τ σ h. no_room_selector (Selects _ _ _ _ _) _ c.args.source _ _ _ _ _ c.args.c _ _ h (via_with (rw c.number.ensures at c.keep_selector.ensures) (or_none c.ok_or.ensures.ok_part c.in_err-m.was)) (no_selector (or_err _ c.ok_or.ensures.value c.in_err-m.was ∙ c.refuse_reached.ensures)))
 
 pub returns : goal.returns
-returns c = λ bundle τ σ h. room_selector (Selects _ _ _ _ _) _ c.args.source _ _ _ _ _ c.args.c _ _ h (via_with (rw c.kind_number.ensures at c.keep_selector.ensures) (or_some c.ok_or.ensures.ok_part c.in_ok-m.was)) (one_selector _ _ (omega arith))
+returns c = λ bundle τ σ h. room_selector (Selects _ _ _ _ _) _ c.args.source _ _ _ _ _ c.args.c _ _ h (via_with (rw c.number.ensures at c.keep_selector.ensures) (or_some c.ok_or.ensures.ok_part c.in_ok-m.was)) (one_selector _ _ (omega arith))

@@ -1,6 +1,6 @@
 -- `import_file` and `parse` fall by the imports that are left, `parse` after `import_file`; the loop of `parse` falls by what is left of the text.
-use Rattle.std.proofs.Common.{◌+◌, ◌*◌, ◌≡◌, length}
-use Rattle.keep.specs.Lent.{lent}
+use Rattle.std.proofs.Common.{◌+◌, ◌*◌, ◌≡◌}
+use Rattle.keep.specs.Lent.{lent_in, lends}
 use Rattle.input.specs.Text.{left}
 use Rattle.sheets.proofs.SheetLaws.{Parsing}
 use Rattle.sheets.proofs.+import_file_parse.Given as goal
@@ -13,10 +13,10 @@ decreases-parse l = 2 * l.depth + 1
 
 abbrev pub invariant-parse-loop-statement : goal.invariant-parse-loop-statement
 invariant-parse-loop-statement l =
-    Parsing l.bundle l.source l.depth
-    (lent l.initial.k l.initial.rules l.initial.selectors l.initial.tests l.initial.properties l.initial.numbers l.initial.colors) l.at
-    (lent l.k l.rules l.selectors l.tests l.properties l.numbers l.colors)
-    × ((length l.rules ≡ length l.initial.rules) × (length l.selectors ≡ length l.initial.selectors) × (length l.tests ≡ length l.initial.tests) × (length l.properties ≡ length l.initial.properties) × (length l.numbers ≡ length l.initial.numbers) × (length l.colors ≡ length l.initial.colors))
+    Parsing l.text.bundle.now l.text.source l.depth
+    (lent_in l.initial.k l.initial.store) l.at
+    (lent_in l.k l.store)
+    × (lends l.store ≡ lends l.initial.store)
 
 abbrev pub decreases-parse-loop-statement : goal.decreases-parse-loop-statement
-decreases-parse-loop-statement l = left l.bundle l.source l.at
+decreases-parse-loop-statement l = left l.text.bundle.now l.text.source l.at

@@ -1,11 +1,8 @@
-use Rattle.tag_number.proofs.Layers.{layer_below, layer_up, layer_out}
+use Rattle.tag_number.proofs.Layers.{layer_below, layer_tried}
 use Rattle.tag_number.proofs.layer_of.Goals as goal
 
 pub returns-then-minus : goal.returns-then-minus
 returns-then-minus c = layer_below c.args.n c.args.minus _ c.if-minus.true c.layer_below.ensures
 
-pub returns-then-n-lt9223372036854775808 : goal.returns-then-n-lt9223372036854775808
-returns-then-n-lt9223372036854775808 c = layer_up c.args.n c.args.minus c.if-minus.false c.if-n-lt9223372036854775808.true
-
 pub returns : goal.returns
-returns c = layer_out c.args.n c.args.minus c.if-minus.false c.if-n-lt9223372036854775808.false
+returns c = layer_tried c.args.n c.args.minus c.try_from.result _ c.if-minus.false c.try_from.ensures c.ok.ensures.value

@@ -13,7 +13,7 @@ use Rattle.tests.proofs.bang_test.Goals as goal
 
 pub returns-in-RightBracket : goal.returns-in-RightBracket
 unfolding bang_test token_of is_sign
-returns-in-RightBracket c = λ τ. bang_as (Reads _ _ _ _ _) _ _ _ _ _ c.in-RightBracket.is (c.store_test.ensures _ _ (unary_row c.args.bundle.now not_exists c.args.key c.args.n.number) τ)
+returns-in-RightBracket c = λ τ. bang_as (Reads _ _ _ _ _) _ _ _ _ _ c.in-RightBracket.is (c.store_test.ensures _ _ (unary_row c.args.text.bundle.now not_exists c.args.key c.args.n.number) τ)
 
 pub returns-in-QuestionMark : goal.returns-in-QuestionMark
 unfolding bang_test token_of is_sign

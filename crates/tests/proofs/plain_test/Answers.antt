@@ -39,7 +39,7 @@ returns-in-GreaterOrEqual c = λ τ. plain_as (Reads _ _ _ _ _) _ _ _ _ _ c.in-G
 
 pub returns-in-RightBracket : goal.returns-in-RightBracket
 unfolding plain_test token_of is_sign to_binary_string_test_type to_binary_numeric_test_type on_option
-returns-in-RightBracket c = λ τ. plain_as (Reads _ _ _ _ _) _ _ _ _ _ c.in-RightBracket.is (c.store_test.ensures _ _ (unary_row c.args.bundle.now exists c.args.key c.args.n.number) (at_tests τ c.args.tests.now c.args.numbers.now c.args.n))
+returns-in-RightBracket c = λ τ. plain_as (Reads _ _ _ _ _) _ _ _ _ _ c.in-RightBracket.is (c.store_test.ensures _ _ (unary_row c.args.text.bundle.now exists c.args.key c.args.n.number) (at_tests τ c.args.tests.now c.args.numbers.now c.args.n))
 
 pub returns-in-QuestionMark : goal.returns-in-QuestionMark
 unfolding plain_test token_of is_sign to_binary_string_test_type to_binary_numeric_test_type on_option

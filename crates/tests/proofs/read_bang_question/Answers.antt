@@ -20,7 +20,7 @@ returns-in_err-t c = rw (handed_on _ c.from_residual.ensures) (λ τ. no_token (
 
 pub returns-in-RightBracket : goal.returns-in-RightBracket
 unfolding token_of is_sign
-returns-in-RightBracket c = λ τ. got_as (Reads _ _ _ _ _) _ _ _ _ _ (via c.read_mandatory_token.ensures c.in_ok-t.was) c.in-RightBracket.is (λ m1. widen (omega arith) (c.store_test.ensures _ _ (unary_row c.args.bundle.now is_false c.args.key c.args.n.number) τ))
+returns-in-RightBracket c = λ τ. got_as (Reads _ _ _ _ _) _ _ _ _ _ (via c.read_mandatory_token.ensures c.in_ok-t.was) c.in-RightBracket.is (λ m1. widen (omega arith) (c.store_test.ensures _ _ (unary_row c.args.text.bundle.now is_false c.args.key c.args.n.number) τ))
 
 pub returns-in_default : goal.returns-in_default
 returns-in_default c = λ τ. got (Reads _ _ _ _ _) _ _ _ _ _ (via c.read_mandatory_token.ensures c.in_ok-t.was) (λ m1. no_way (Reads _ _ _ _ _) _ _ _ (not_sign _ (10 ∷ []) _ (opened c.in_default.in_default-own.keys2) right_bracket tt) (refuses c.refuse.ensures))

@@ -14,4 +14,4 @@ pub returns-in_err-f : goal.returns-in_err-f
 returns-in_err-f c = rw (handed_on _ c.from_residual-in_err-f.ensures) (λ op w τ. a_figure (Reads _ _ _ _ _) _ _ _ _ _ (via c.read_figure.ensures c.in_ok-x.was) (λ m1. another (Reads _ _ _ _ _) _ _ _ _ _ _ (via c.expect_right_bracket.ensures c.in_err-f.was) (refuses refl)))
 
 pub returns : goal.returns
-returns c = λ op w τ. a_figure (Reads _ _ _ _ _) _ _ _ _ _ (via c.read_figure.ensures c.in_ok-x.was) (λ m1. beyond (Reads _ _ _ _ _) _ _ _ _ _ _ (via c.expect_right_bracket.ensures c.in_ok-f.was) (λ m2. widen (omega arith) (c.store_number_test.ensures _ _ (numeric_row c.args.bundle.now op c.args.key c.in_ok-x.x w) τ)))
+returns c = λ op w τ. a_figure (Reads _ _ _ _ _) _ _ _ _ _ (via c.read_figure.ensures c.in_ok-x.was) (λ m1. beyond (Reads _ _ _ _ _) _ _ _ _ _ _ (via c.expect_right_bracket.ensures c.in_ok-f.was) (λ m2. widen (omega arith) (c.store_number_test.ensures _ _ (numeric_row c.args.text.bundle.now op c.args.key c.in_ok-x.x w) τ)))

@@ -4,13 +4,10 @@ use lib.ListN.{length}
 use Rattle.walk.proofs.finish_maps.Goals as goal
 
 pub returns-in-Err : goal.returns-in-Err
-returns-in-Err c = let a = c.args in record {
-  t_after = finish_refused a.multipolygons a.place _ a.t.now _ _ _
-      c.in-Err.is c.of_entity.ensures
-      (zeroed (length a.t.now) _ c.zero_words.ensures (omega arith));
-  few = tt;
-}
+returns-in-Err c = let a = c.args in
+    finish_refused a.place.multipolygons a.place.place _ a.t.now _ _ _
+    c.in-Err.is c.refuse.ensures
+    (zeroed (length a.t.now) _ (c.fill.ensures.after (λ y e. e)) (omega arith))
 
 pub returns-in-Ok : goal.returns-in-Ok
-returns-in-Ok c = let a = c.args in
-    record { t_after = rw c.m.view_is (finish_going a.multipolygons a.place _ a.t.now a.t.now _ c.in-Ok.is); few = omega arith }
+returns-in-Ok c = let a = c.args in finish_going a.place.multipolygons a.place.place _ a.t.now a.t.now _ c.in-Ok.is

@@ -8,8 +8,8 @@ use Rattle.properties.specs.declared.Form.{Form}
 use Rattle.std.specs.Prelude.{Result}
 
 abbrev pub invariant-loop-t : goal.invariant-loop-t
-invariant-loop-t l = (left l.bundle l.source l.at ≤ left l.bundle l.source l.initial.at)
-    × ((r : Result (Form × Cursor) Refusal) → FormsFrom l.bundle l.source (left l.bundle l.source l.initial.at) l.f l.at r → FormsFrom l.bundle l.source (left l.bundle l.source l.initial.at) l.initial.f l.initial.at r)
+invariant-loop-t l = (left l.text.bundle.now l.text.source l.at ≤ left l.text.bundle.now l.text.source l.initial.at)
+    × ((r : Result (Form × Cursor) Refusal) → FormsFrom l.text.bundle.now l.text.source (left l.text.bundle.now l.text.source l.initial.at) l.f l.at r → FormsFrom l.text.bundle.now l.text.source (left l.text.bundle.now l.text.source l.initial.at) l.initial.f l.initial.at r)
 
 abbrev pub decreases-loop-t : goal.decreases-loop-t
-decreases-loop-t l = left l.bundle l.source l.at
+decreases-loop-t l = left l.text.bundle.now l.text.source l.at

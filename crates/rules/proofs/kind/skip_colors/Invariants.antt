@@ -7,8 +7,8 @@ use Rattle.cursor.specs.declared.Cursor.{Cursor}
 use Rattle.std.specs.Prelude.{Result}
 
 abbrev pub invariant-loop-t : goal.invariant-loop-t
-invariant-loop-t l = (left l.bundle l.source l.at ≤ left l.bundle l.source l.initial.at)
-    × ((r : Result Cursor Refusal) → SkipsFrom l.bundle l.source (left l.bundle l.source l.initial.at) l.at r → SkipsFrom l.bundle l.source (left l.bundle l.source l.initial.at) l.initial.at r)
+invariant-loop-t l = (left l.text.bundle.now l.text.source l.at ≤ left l.text.bundle.now l.text.source l.initial.at)
+    × ((r : Result Cursor Refusal) → SkipsFrom l.text.bundle.now l.text.source (left l.text.bundle.now l.text.source l.initial.at) l.at r → SkipsFrom l.text.bundle.now l.text.source (left l.text.bundle.now l.text.source l.initial.at) l.initial.at r)
 
 abbrev pub decreases-loop-t : goal.decreases-loop-t
-decreases-loop-t l = left l.bundle l.source l.at
+decreases-loop-t l = left l.text.bundle.now l.text.source l.at

@@ -1,13 +1,16 @@
+use mathlib.Core.Path.{refl}
+use Rattle.walk.proofs.RowLaws.{below_some, below_out}
 use Rattle.styles.proofs.StylesLaws.{width_there, width_none}
 use Rattle.styles.proofs.parts.default_width.Goals as goal
 
-pub returns-then-i-n : goal.returns-then-i-n
-returns-then-i-n c = let a = c.args in
-    width_there a.tables.now.bundle.now a.tables.now.selectors.now a.tables.now.properties.now a.tables.now.numbers.now a.maps.now a.n _
-    c.layer_place-i.ensures c.if-i-n.true _
-    c.row_of.ensures _ c.get_num.ensures _ c.width_or_zero.ensures
-
-pub returns : goal.returns
-returns c = let a = c.args in
+pub returns-in-None : goal.returns-in-None
+returns-in-None c = let a = c.args in
     width_none a.tables.now.bundle.now a.tables.now.selectors.now a.tables.now.properties.now a.tables.now.numbers.now a.maps.now a.n _
-    c.layer_place-i.ensures c.if-i-n.false
+    refl (below_out _ _ _ c.layer_place.ensures c.in-None.is)
+
+pub returns-in-Some : goal.returns-in-Some
+returns-in-Some c = let a = c.args in
+    let p = below_some _ _ _ _ c.layer_place.ensures c.in-Some.is in
+    width_there a.tables.now.bundle.now a.tables.now.selectors.now a.tables.now.properties.now a.tables.now.numbers.now a.maps.now a.n _
+    p.0 p.1 _
+    c.row_of.ensures _ c.number.ensures _ c.width_or_zero.ensures

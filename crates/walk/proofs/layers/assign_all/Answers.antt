@@ -1,7 +1,7 @@
-use Prim.Native.Nat.{◌-◌}
 use native.Mathlib.Omega.{arith}
 use mathlib.Core.Path.{refl, sym, ◌∙◌, ap}
-use Rattle.decode.specs.Decode.{name_at, places}
+use Rattle.decode.specs.Decode.{name_at}
+use Rattle.walk.specs.Rows.{numbers_in}
 use Rattle.walk.specs.Run.{assign_all}
 use Rattle.base.proofs.Options.{handed_on}
 use Rattle.walk.proofs.LayerLaws.{all_end, all_stop, all_next, less_zero, told_stop}
@@ -12,7 +12,7 @@ loop-i-init c = let a = c.args in
     ap
     (λ k.
     assign_all (name_at a.tables.now.bundle.now a.tables.now.properties.now) a.t.now a.m 0 k
-    (places a.from (a.to - a.from))) (less_zero a.m)
+    (numbers_in a.ps)) (less_zero a.m)
 
 pub returns-in_err-assign_layer : goal.returns-in_err-assign_layer
 returns-in_err-assign_layer c = let loop = c.loop-i in told_stop _ _ _ _ refl (handed_on _ c.from_residual.ensures)

@@ -10,6 +10,6 @@ pub returns : goal.returns
 returns c = let a = c.args in
     named_layer a.bundle.now a.selectors.now a.s _
     c.word_of.ensures
-    c.if-word_of-ne1.false _ _ _
-    c.word_of-2.ensures c.word_of-3.ensures
+    c.if-word_of-ne1.false _ _
+    c.range_of.ensures
     c.part.ensures

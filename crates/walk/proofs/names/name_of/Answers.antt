@@ -1,9 +1,6 @@
-use mathlib.Core.Path.{◌∙◌, ap₂}
-use Rattle.base.specs.Bytes.{between}
+use mathlib.Core.Path.{◌∙◌, ap}
+use Rattle.base.specs.Bytes.{within}
 use Rattle.walk.proofs.names.name_of.Goals as goal
 
 pub returns : goal.returns
-returns c = c.part.ensures
-    ∙ ap₂
-    (λ a b. between a b c.args.bundle.now)
-    c.word_of.ensures c.word_of-2.ensures
+returns c = c.part.ensures ∙ ap (λ r. within r c.args.bundle.now) c.range_of.ensures

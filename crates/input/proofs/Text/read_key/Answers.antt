@@ -1,0 +1,24 @@
+use Rattle.input.proofs.TokenLaws.{cond_true, cond_false, sign_known, not_sign}
+use Rattle.input.specs.Text.{key_of, token_of}
+use Rattle.grammar.specs.View.{is_sign}
+use Rattle.grammar.specs.Token.{colon}
+use Rattle.base.specs.Choice.{via}
+use mathlib.Core.Path.{refl}
+use mathlib.Core.List.{[], ◌∷◌}
+use borrow.Enum.Refused.{opened}
+use Rattle.input.proofs.Text.read_key.Goals as goal
+use Rattle.base.specs.Option.{result_err, result_ok}
+use Rattle.std.proofs.Common.{◌∙◌}
+use Rattle.base.proofs.Options.{handed_on}
+
+pub returns-in_err-t : goal.returns-in_err-t
+unfolding key_of
+returns-in_err-t c = handed_on _ c.from_residual.ensures ∙ result_err _ _ _ (via c.read_mandatory_token.ensures c.in_err-t.was) refl
+
+pub returns-in-Colon : goal.returns-in-Colon
+unfolding key_of is_sign token_of
+returns-in-Colon c = result_ok _ _ _ (via c.read_mandatory_token.ensures c.in_ok-t.was) (cond_true _ _ _ (sign_known _ colon c.in-Colon.is refl) c.read_joined.ensures)
+
+pub returns-in_default : goal.returns-in_default
+unfolding key_of
+returns-in_default c = result_ok _ _ _ (via c.read_mandatory_token.ensures c.in_ok-t.was) (cond_false _ _ _ (not_sign _ (22 ∷ []) _ (opened c.in_default.in_default-own.keys2) colon tt) refl)

@@ -1,6 +1,0 @@
-use lib.ListN.{get_or-eq_default}
-use mathlib.Core.Path.{sym}
-use Rattle.settings.proofs.count_at.Goals as goal
-
-pub returns-else-i-counts : goal.returns-else-i-counts
-returns-else-i-counts c = sym (get_or-eq_default c.args.counts.now 0 c.if-i-counts.false)
