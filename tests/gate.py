@@ -1,42 +1,48 @@
 #!/usr/bin/env python3
-"""Prints how long each crate takes, as the table of docs/GATE.md.
+"""Prints how long the gate takes, crate by crate, as the table of docs/GATE.md.
 
-usage: python3 tests/gate.py, in a fresh clone, where nothing is proved yet and nothing else runs
+usage: bash .ci/run 2>&1 | python3 tests/gate.py, where nothing else runs
 
-Crates are taken in the order of crates.txt, so that what a crate stands on is proved before it and its seconds are its own;
-beside them, how many edits that must fail it has, and the seconds of all of them.
+The gate prints no times, so each of its lines is noted as it comes. Checks run side by side: the seconds of a crate are those
+of the clock between the line that says it is proved and the line before that said so of another; those of its edits, between
+the line that says they are tried and the next one of that kind. So a crate that is checked beside slower ones shows fewer
+seconds than it takes, and the sums are the clock's. What an earlier run kept is not done again and takes no time;
+`rt ci --anew` in place of .ci/run does all.
 """
-import pathlib
-import subprocess
+import re
 import sys
 import time
 
-top = pathlib.Path(__file__).resolve().parent.parent
-
-
-def seconds(command, folder):
-    start = time.monotonic()
-    done = subprocess.run(command, cwd=folder, capture_output=True, text=True)
-    if done.returncode != 0:
-        sys.exit(f"{' '.join(command)} in {folder.name}:\n{done.stdout}{done.stderr}")
-    return round(time.monotonic() - start)
+PROVED = re.compile(r"rt: (\w+) proved$")
+TRYING = re.compile(r"rt: (\w+): trying its must-fail edits \((\d+)\)$")
+TRIED = re.compile(r"rt: must-fail \w+/")
 
 
 def main():
-    rows = []
-    for line in (top / "crates.txt").read_text(encoding="utf-8").splitlines():
-        if not line or line.startswith("#"):
+    start = before = time.monotonic()
+    proofs, edits, counts = {}, {}, {}
+    tried, line = None, ""
+    for line in sys.stdin:
+        now = time.monotonic()
+        proved, trying = PROVED.match(line), TRYING.match(line)
+        if not proved and not trying and not (tried and TRIED.match(line)):
             continue
-        name = line.split()[0].rstrip(":")
-        proved = seconds(["rt", "check"], top / "crates" / name)
-        edits = len(list((top / "crates" / name / "must-fail").glob("*.edit")))
-        rows.append((name, proved, edits, seconds(["rt", "must-fail", name], top) if edits else 0))
-    rows.sort(key=lambda r: -r[1] - r[3])
+        if tried:
+            edits[tried] += now - before
+        if proved:
+            proofs[proved[1]] = now - before
+        tried = trying[1] if trying else None
+        if trying:
+            edits.setdefault(tried, 0.0)
+            counts[tried] = int(trying[2])
+        before = now
+    print(line.strip())
     print("| crate | proved, s | edits | edits, s |\n|---|---|---|---|")
-    for row in rows:
-        print("| %s | %d | %d | %d |" % row)
-    sums = [sum(r[i] for r in rows) for i in (1, 2, 3)]
-    print("| all %d | %d | %d | %d |" % (len(rows), *sums))
+    rows = [(n, proofs.get(n, 0.0), counts.get(n, 0), edits.get(n, 0.0)) for n in set(proofs) | set(edits)]
+    for row in sorted(rows, key=lambda r: -r[1] - r[3]):
+        print("| %s | %.0f | %d | %.0f |" % row)
+    print("| all %d | %.0f | %d | %.0f |" % (len(rows), *(sum(r[i] for r in rows) for i in (1, 2, 3))))
+    print("In all %.0f s by the clock, tests and programs among them." % (time.monotonic() - start))
 
 
 if __name__ == "__main__":

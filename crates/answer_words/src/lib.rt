@@ -34,6 +34,17 @@ pub fn counted(n: usize) -> Answer<5>
     }
 }
 
+impl<const N: usize> Answer<N> {
+    // Stores the words and answers the number.
+    pub fn tell(self, out: &mut [u64]) -> u64
+        ensures kind { result ≡ self.entry.kind }
+        ensures stored_words { out.new ≡ stored out.old 0 self.entry.words }
+    {
+        store_words(out, &self.words);
+        self.kind
+    }
+}
+
 // Stores words at the front, as far as there is room.
 pub fn store_words(out: &mut [u64], words: &[u64])
     ensures { out.new ≡ stored out.old 0 words.now }

@@ -1,5 +1,5 @@
 -- Equality and order of byte strings: their laws, and how the library states them.
-use Prim.Native.Nat.{ℕ, ◌-◌, ◌<◌, ◌≤◌}
+use Prim.Native.Nat.{ℕ, ◌-◌}
 use native.Mathlib.Omega.{arith}
 use mathlib.Core.Path.{◌≡◌, refl, sym, ◌∙◌, ap, ap₂, subst}
 use mathlib.Core.Bool.{Bool, true, false, ◌&&◌, ◌||◌}
@@ -68,25 +68,6 @@ precedes_slices (x ∷ xs) (y ∷ ys) =
     first_less (ltb x y) (eqb x y) (slice_partial_cmp (λ x y. Some (nat_cmp x y)) xs ys)
     ∙ ap (λ t. ltb x y || (eqb x y && t)) (precedes_slices xs ys)
 
--- a part that ends past the end is the rest, and one that ends before it starts is nothing
-pub between_past : (from to : ℕ) (s : Bytes) → length s < to → between from to s ≡ drop from s
-between_past from to s h = take_all (to - from) (drop from s) (simp lib.ListN.length-drop (omega arith))
-
-pub between_none : (from to : ℕ) (s : Bytes) → to < from → between from to s ≡ []
-between_none from to s h = let e : to - from ≡ 0 = omega arith in rw e
-
--- the parts that the code makes
-pub rest_none : (s : Bytes) (from : ℕ) → length s < from → between (length s) (length s) s ≡ drop from s
-rest_none s from h =
-    let e : length s - length s ≡ 0 = omega arith in
-    let p : length s ≤ from = omega arith in
-    rw (e, drop_of_length-le s p)
-
+-- the part from a place on
 pub rest_all : (s : Bytes) (from : ℕ) → between from (length s) s ≡ drop from s
 rest_all s from = take_all (length s - from) (drop from s) (simp lib.ListN.length-drop (omega arith))
-
-pub part_none : (s : Bytes) (from to : ℕ) → to < from → between (length s) (length s) s ≡ between from to s
-part_none s from to h =
-    let e : length s - length s ≡ 0 = omega arith in
-    let p : to - from ≡ 0 = omega arith in
-    rw (e, p)

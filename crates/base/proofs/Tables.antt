@@ -191,10 +191,6 @@ pub capacity_none : (stride len : ℕ) → stride ≡ 0 → 0 ≡ capacity_of st
 unfolding capacity_of
 capacity_none stride len e = rw (e, native.Mathlib.Nat.div-zero)
 
-pub capacity_held : (stride len : ℕ) → len / stride ≤ 16384 → len / stride ≡ capacity_of stride len
+pub capacity_min : (stride len : ℕ) → min (len / stride) 16384 ≡ capacity_of stride len
 unfolding capacity_of
-capacity_held stride len h = omega arith
-
-pub capacity_most : (stride len : ℕ) → 16384 < len / stride → 16384 ≡ capacity_of stride len
-unfolding capacity_of
-capacity_most stride len h = omega arith
+capacity_min stride len = omega arith

@@ -1,4 +1,4 @@
--- Byte strings: equality and order as tests, and the part that a range names.
+-- Byte strings: equality and order as tests, and the part of a list that a range names.
 use Rattle.std.specs.Prelude.{ℕ, ◌-◌, ◌<◌, Bool, true, false, ◌&&◌, ◌||◌, List, [], ◌∷◌, eqb, ltb, take, drop}
 use Prim.Native.Char.{code}
 use Prim.Native.String.{String, [] as []ˢ, ◌∷◌ as ◌∷ˢ◌}
@@ -29,8 +29,8 @@ precedes xs [] = false
 precedes [] (y ∷ ys) = true
 precedes (x ∷ xs) (y ∷ ys) = ltb x y || (eqb x y && precedes xs ys)
 
-abbrev pub between : ℕ → ℕ → Bytes → Bytes
+abbrev pub between : {A : Type 0} → ℕ → ℕ → List A → List A
 between from to s = take (to - from) (drop from s)
 
-abbrev pub within : Range → Bytes → Bytes
+abbrev pub within : {A : Type 0} → Range → List A → List A
 within r s = between r.from r.to s

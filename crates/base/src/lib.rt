@@ -1,7 +1,7 @@
 // Total reads and stores of slices, ranges, comparison of byte strings, lent tables, and the refusal of every call.
 #![tactic(auto)]
 
-ghost use Rattle.std.specs.Prelude.{◌≡◌, ℕ, ◌-◌, length, get_or, set, take, drop};
+ghost use Rattle.std.specs.Prelude.{◌≡◌, get_or, set};
 ghost use Rattle.base.specs.Bytes.{same, precedes, within};
 ghost use Rattle.base.specs.Table.{zero_float, capacity_of, stored};
 
@@ -69,35 +69,15 @@ pub fn capacity(stride: usize, len: usize) -> usize
     if stride == 0 {
         return 0;
     }
-    let held = len / stride;
-    if held <= 16384 { held } else { 16384 }
+    (len / stride).min(16384)
 }
 
 // The part of a slice that a range names, as far as the slice has it.
-pub fn part(s: &[u8], r: Range) -> &[u8]
+pub fn part<T>(s: &[T], r: Range) -> &[T]
     ensures { result.now ≡ within r s.now }
 {
-    let from = r.from;
-    let to = r.to;
-    let len = s.len();
-    if len < to {
-        return rest(s, from);
-    }
-    if to < from {
-        return &s[len..len];
-    }
-    &s[from..to]
-}
-
-// What a slice has from a place on.
-fn rest(s: &[u8], from: usize) -> &[u8]
-    ensures { result.now ≡ drop from s.now }
-{
-    let len = s.len();
-    if len < from {
-        return &s[len..len];
-    }
-    &s[from..len]
+    let to = r.to.min(s.len());
+    &s[r.from.min(to)..to]
 }
 
 // Whether two byte strings are equal.

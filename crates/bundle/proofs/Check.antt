@@ -16,7 +16,7 @@ use Rattle.group.specs.Number.{number_at, group_of}
 use Rattle.group.specs.Pair.{pairs_at, skip_of, entries_at, named, all_utf8, map_bytes}
 use Rattle.group.proofs.Numbers.{number_read_at, number_written_at, number_most}
 use Rattle.group.proofs.Runs.{AllShort, all_short, pairs_read, pairs_written, pairs_all, skip_within}
-use Rattle.bundle.specs.Bundle.{count_of, first_at, ranges_of, texts_of, good_names, is_bundle, check_of, bundle_bytes, IsTexts}
+use Rattle.bundle.specs.Bundle.{count_of, first_at, texts_of, good_names, is_bundle, check_of, bundle_bytes, IsTexts}
 use Rattle.std.specs.Option.{option_eq}
 use Rattle.std.specs.Prelude.{Option, Some, None, Ok, Err}
 use Rattle.base.specs.Option.{on_option}
@@ -32,41 +32,27 @@ module _ (s : Bytes) where
   unfolding is_bundle pick
   bundle_long h = rw (lt-ltb _ _ h)
 
-  module _ (l : length s ≤ 1048576) (n : ℕ) (p : n ≡ count_of s) where
-    pub bundle_none : n ≡ 0 → false ≡ is_bundle s
+  module _ (l : length s ≤ 1048576) where
+    pub bundle_none : count_of s ≡ 0 → false ≡ is_bundle s
     unfolding is_bundle pick
-    bundle_none z = let e : count_of s ≡ 0 = sym p ∙ z in rw (le-ltb _ _ l, eq-eqb _ _ e)
+    bundle_none z = rw (le-ltb _ _ l, eq-eqb _ _ z)
 
-    module _ (c : n ≡ 0 → ⊥) (f : ℕ) (q : f ≡ first_at s) where
-      some_texts : eqb (count_of s) 0 ≡ false
-      some_texts = ne_eqb (count_of s) 0 (λ e. c (p ∙ e))
-
-      placed : (r : Option ℕ) → skip_of n s f ≡ r → skip_of (count_of s) s (first_at s) ≡ r
-      placed r e = ap₂ (λ (i j : ℕ). skip_of i s j) (sym p) (sym q) ∙ e
-
-      pub bundle_cut : skip_of n s f ≡ None → false ≡ is_bundle s
+    module _ (c : count_of s ≡ 0 → ⊥) where
+      bundle_cut : skip_of (count_of s) s (first_at s) ≡ None → false ≡ is_bundle s
       unfolding is_bundle pick on_option
-      bundle_cut e = rw (le-ltb _ _ l, some_texts, placed None e)
+      bundle_cut e = rw (le-ltb _ _ l, ne_eqb _ _ c, e)
 
-      pub bundle_over : (end : ℕ) → skip_of n s f ≡ Some end → (end ≡ length s → ⊥) → false ≡ is_bundle s
+      bundle_over : (end : ℕ) → skip_of (count_of s) s (first_at s) ≡ Some end → (end ≡ length s → ⊥) → false ≡ is_bundle s
       unfolding is_bundle pick on_option
-      bundle_over end e d = rw (le-ltb _ _ l, some_texts, placed (Some end) e, ne_eqb _ _ d)
+      bundle_over end e d = rw (le-ltb _ _ l, ne_eqb _ _ c, e, ne_eqb _ _ d)
 
-      pub bundle_names :
-          (end : ℕ) (r : Bool)
-          → skip_of n s f ≡ Some end
-          → end ≡ length s
-          → r ≡ good_names (map key_of (entries_at n s f))
-          → r ≡ is_bundle s
-      unfolding is_bundle pick on_option texts_of
-      bundle_names end r e d g =
-          g
-          ∙ ap₂ (λ (i j : ℕ). good_names (map key_of (entries_at i s j))) p q
-          ∙ (rw (le-ltb _ _ l, some_texts, placed (Some end) e, eq-eqb _ _ d))
+      bundle_names : skip_of (count_of s) s (first_at s) ≡ Some (length s) → good_names (map key_of (texts_of s)) ≡ is_bundle s
+      unfolding is_bundle pick on_option
+      bundle_names e = rw (le-ltb _ _ l, ne_eqb _ _ c, e, eq-eqb (length s) _ refl)
 
-      module _ (o : Option ℕ) (t : Bool) (w : o ≡ skip_of n s f) (e : t ≡ option_eq eqb o (Some (length s))) where
-        pub bundle_there : (r : Bool) → t ≡ true → r ≡ good_names (map key_of (entries_at n s f)) → r ≡ is_bundle s
-        bundle_there r h g = bundle_names (length s) r (sym w ∙ found_there o (length s) (sym e ∙ h)) refl g
+      module _ (o : Option ℕ) (t : Bool) (w : o ≡ skip_of (count_of s) s (first_at s)) (e : t ≡ option_eq eqb o (Some (length s))) where
+        pub bundle_there : t ≡ true → good_names (map key_of (texts_of s)) ≡ is_bundle s
+        bundle_there h = bundle_names (sym w ∙ found_there o (length s) (sym e ∙ h))
 
         pub bundle_elsewhere : t ≡ false → t ≡ is_bundle s
         bundle_elsewhere h =
@@ -80,35 +66,20 @@ module _ (s : Bytes) (t : Bool) (e : t ≡ is_bundle s) where
   unfolding check_of pick
   check_layout r h q = let g : is_bundle s ≡ false = sym e ∙ h in rw g (ap Err q)
 
-  module _
-      (h : t ≡ true)
-      (n f : ℕ)
-      (p : n ≡ count_of s)
-      (q : f ≡ first_at s)
-      (u : Bool)
-      (d : u ≡ all_utf8 (entries_at n s f))
-    where
-      texts_utf8 : all_utf8 (texts_of s) ≡ u
-      unfolding texts_of
-      texts_utf8 = ap₂ (λ (i j : ℕ). all_utf8 (entries_at i s j)) (sym p) (sym q) ∙ sym d
+  module _ (h : t ≡ true) (u : Bool) (d : u ≡ all_utf8 (texts_of s)) where
+    pub check_utf8 : (r : Refusal) → u ≡ false → r ≡ refusal 2 0 0 0 0 → Err r ≡ check_of s
+    unfolding check_of pick
+    check_utf8 r v w =
+        let g : is_bundle s ≡ true = sym e ∙ h in
+        let x : all_utf8 (texts_of s) ≡ false = sym d ∙ v in
+        rw (g, x) (ap Err w)
 
-      pub check_utf8 : (r : Refusal) → u ≡ false → r ≡ refusal 2 0 0 0 0 → Err r ≡ check_of s
-      unfolding check_of pick
-      check_utf8 r v w =
-          let g : is_bundle s ≡ true = sym e ∙ h in
-          let x : all_utf8 (texts_of s) ≡ false = texts_utf8 ∙ v in
-          rw (g, x) (ap Err w)
-
-      pub check_texts : u ≡ true → Ok n ≡ check_of s
-      unfolding check_of pick
-      check_texts v =
-          let g : is_bundle s ≡ true = sym e ∙ h in
-          let x : all_utf8 (texts_of s) ≡ true = texts_utf8 ∙ v in
-          rw (g, x) (ap Ok p)
-
-pub ranges_are : (s : Bytes) (n f : ℕ) → n ≡ count_of s → f ≡ first_at s → pairs_at n s f ≡ ranges_of s
-unfolding ranges_of
-ranges_are s n f p q = ap₂ (λ (i j : ℕ). pairs_at i s j) p q
+    pub check_texts : u ≡ true → Ok (count_of s) ≡ check_of s
+    unfolding check_of pick
+    check_texts v =
+        let g : is_bundle s ≡ true = sym e ∙ h in
+        let x : all_utf8 (texts_of s) ≡ true = sym d ∙ v in
+        rw (g, x)
 
 -- Reading what was written.
 
@@ -151,11 +122,6 @@ module _ (m : Map Bytes) (t : IsTexts m) where
       let r = pairs_read m (bundle_bytes m) (length (group_of (length m))) [] behind_count texts_short in
       (r.0, (r.1.0, r.1.1.1))
 
-  names_read : good_names (map key_of (entries_at (length m) (bundle_bytes m) (length (group_of (length m))))) ≡ true
-  names_read =
-      let r = pairs_read m (bundle_bytes m) (length (group_of (length m))) [] behind_count texts_short in
-      ap (λ (k : Map Bytes). good_names (map key_of k)) r.1.1.0 ∙ t.names
-
   -- and nothing within the limits is refused
   pub bundle_read : is_bundle (bundle_bytes m) ≡ true
   unfolding bundle_bytes
@@ -166,16 +132,14 @@ module _ (m : Map Bytes) (t : IsTexts m) where
       let a = length-append (group_of (length m)) (map_bytes m) in
       let w = skip_within (length m) (bundle_bytes m) (length (group_of (length m))) r.0 r.1.0 (omega arith) in
       let some = t.some_text in
+      let n = count_is in
+      let z : r.0 ≡ length (bundle_bytes m) = omega arith in
       sym
-      (bundle_names (bundle_bytes m) t.size (length m) (sym count_is)
+      (bundle_names (bundle_bytes m) t.size
       (λ z. omega arith)
-      (length (group_of (length m)))
-      (sym first_is)
-      r.0
-      true
-      r.1.0
-      (omega arith)
-      (sym names_read))
+      (ap₂ (λ (i j : ℕ). skip_of i (bundle_bytes m) j) count_is first_is ∙ r.1.0 ∙ ap Some z))
+      ∙ ap (λ (k : Map Bytes). good_names (map key_of k)) texts_read
+      ∙ t.names
 
 -- what is read of a bundle was written there, and is within the limits
 module _ (s : Bytes) (all : AllBytes s) (b : is_bundle s ≡ true) where

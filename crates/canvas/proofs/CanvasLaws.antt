@@ -2,12 +2,12 @@
 use Prim.Native.Nat.{ℕ, suc, ◌+◌, ◌-◌, ◌≤◌, ◌<◌}
 use native.Mathlib.Omega.{arith}
 use mathlib.Core.Path.{◌≡◌, refl, sym, ◌∙◌, ap}
-use mathlib.Core.Bool.{Bool, true, false, not}
+use mathlib.Core.Bool.{Bool, true, false}
 use mathlib.Core.List.{List, [], ◌∷◌}
 use lib.Ieee.{Float}
 use lib.ListN.{length}
 use lib.Dec.{eqb}
-use borrow.Author.Tests.{eqb-true, not-true, not-false}
+use borrow.Author.Tests.{eqb-true}
 use Rattle.base.specs.Bytes.{Bytes, same, within}
 use Rattle.base.specs.Choice.{pick, by-test, via, if_true, if_false}
 use Rattle.table.specs.Kind.{object_kind}
@@ -20,7 +20,7 @@ use Rattle.table.specs.Value.{word_at, range_at, value_at}
 use Rattle.table.specs.declared.PropertyValue.{PropertyValue}
 use Rattle.valid.specs.Valid.{tables_sound}
 use Rattle.valid.specs.declared.Counts.{Counts}
-use Rattle.decode.specs.Decode.{name_at, places}
+use Rattle.decode.specs.Decode.{name_at, places, places_in}
 use Rattle.style.specs.declared.StyleType.{StyleType}
 use Rattle.canvas.specs.Canvas.{or_color, shade_of, color_at, first_color, any_canvas, rule_color, rules_color, canvas_name, canvas_of}
 use Rattle.std.specs.Prelude.{Option, None, Ok, Err}
@@ -76,22 +76,22 @@ module _ (bundle : Bytes) (rules selectors properties : List ℕ) (numbers : Lis
   unfolding rules_color
   rules_step total i h r k e q = or_is r _ k _ e q ∙ one_left among total i h
 
-  -- the words of a rule
-  module _ (i s end : ℕ) (a : s ≡ word_at rules i 1) (b : end ≡ word_at rules i 2) (t : Bool)
-      (e : t ≡ any_canvas selectors (places s (end - s))) where
+  -- the ranges of a rule
+  module _ (i : ℕ) (a : Range) (p : a ≡ range_at rules i 1) (t : Bool) (e : t ≡ any_canvas selectors (places_in a)) where
     pub rule_canvas :
         t ≡ true
-        → (from to : ℕ) (r : Option Color)
-        → from ≡ word_at rules i 3
-        → to ≡ word_at rules i 4
-        → r ≡ first_color bundle properties numbers name (places from (to - from))
+        → (b : Range) (r : Option Color)
+        → b ≡ range_at rules i 3
+        → r ≡ first_color bundle properties numbers name (places_in b)
         → r ≡ rule_color bundle rules selectors properties numbers name i
-    unfolding rule_color pick
-    rule_canvas y from to r f g q = rw (← a, ← b, ← e, y, ← f, ← g) q
+    unfolding rule_color
+    rule_canvas y b r f q =
+        if_true _ _ _ (via (e ∙ ap (λ a. any_canvas selectors (places_in a)) p) y)
+        (q ∙ ap (λ b. first_color bundle properties numbers name (places_in b)) f)
 
     pub rule_other : t ≡ false → None ≡ rule_color bundle rules selectors properties numbers name i
-    unfolding rule_color pick
-    rule_other y = rw (← a, ← b, ← e, y)
+    unfolding rule_color
+    rule_other y = if_false _ _ _ (via (e ∙ ap (λ a. any_canvas selectors (places_in a)) p) y) refl
 
 -- ---- one of several selectors
 
@@ -168,24 +168,26 @@ module _ (bundle : Bytes) (properties : List ℕ) (numbers : List Float) (name :
 
 -- ---- the whole
 
-module _ (bundle : Bytes) (rules selectors tests properties : List ℕ) (numbers : List Float) (n : Counts) (t : StyleType) (b : Bool)
-    (i : b ≡ tables_sound rules selectors tests properties numbers n (length bundle)) where
+module _ (bundle : Bytes) (rules selectors tests properties : List ℕ) (numbers : List Float) (n : Counts) (t : StyleType) where
+  abbrev sound : Bool
+  sound = tables_sound rules selectors tests properties numbers n (length bundle)
+
   pub canvas_broken :
-      not b ≡ true
+      sound ≡ false
       → (e : Refusal)
       → e ≡ refusal 22 0 0 0 0
       → Err e ≡ canvas_of bundle rules selectors tests properties numbers n t
   unfolding canvas_of
-  canvas_broken y e q = if_false _ _ _ (via i (not-true b y)) (ap Err q)
+  canvas_broken y e q = if_false _ _ _ y (ap Err q)
 
   pub canvas_colored :
-      not b ≡ false
+      sound ≡ true
       → (k : StyleType) (r : Option Color)
       → t ≡ k
       → r ≡ rules_color bundle rules selectors properties numbers (canvas_name k) (places 0 n.rules)
       → Ok r ≡ canvas_of bundle rules selectors tests properties numbers n t
   unfolding canvas_of
   canvas_colored y k r q e =
-      if_true _ _ _ (via i (not-false b y))
+      if_true _ _ _ y
       (ap Ok
       (e ∙ ap (λ x. rules_color bundle rules selectors properties numbers (canvas_name x) (places 0 n.rules)) (sym q)))

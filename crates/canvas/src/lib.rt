@@ -1,17 +1,18 @@
 // The canvas colour of a sheet, over lent tables.
 #![tactic(auto)]
 
-ghost use Rattle.std.specs.Prelude.{◌≡◌, eqb, List, ◌≤◌, ◌<◌, ◌-◌};
+ghost use Rattle.std.specs.Prelude.{◌≡◌, eqb};
 ghost use Rattle.table.specs.Value.{word_at};
-ghost use Rattle.decode.specs.Decode.{places};
+ghost use Rattle.decode.specs.Decode.{places, places_in};
 ghost use Rattle.canvas.specs.Canvas.{shade_of, color_at, first_color, any_canvas, rule_color, rules_color, canvas_of};
 
-use base::refusal::{Refusal, TABLE_BROKEN};
+use base::Range;
+use base::refusal::Refusal;
 use color::Color;
 use style::StyleType;
 use table::kind::ObjectKind;
 use table::{PropertyValue, Tables, property_value, range_of, word_of};
-use valid::{Counts, are_sound};
+use valid::{Counts, judge};
 
 // The canvas colour: 22 is the only refusal. proofs/Shown.antt restates the promise on rules.
 pub fn canvas_fill_color(
@@ -21,9 +22,7 @@ pub fn canvas_fill_color(
 ) -> Result<Option<Color>, Refusal>
     ensures { result ≡ canvas_of tables.now.bundle.now tables.now.rules.now tables.now.selectors.now tables.now.tests.now tables.now.properties.now tables.now.numbers.now n style_type }
 {
-    if !are_sound(tables, n) {
-        return Err(Refusal::plain(TABLE_BROKEN));
-    }
+    judge(tables, n)?;
     match style_type {
         StyleType::Josm => Ok(rules_color(tables, b"fill-color", n.rules)),
         StyleType::MapsMe => Ok(rules_color(tables, b"background-color", n.rules)),
@@ -45,26 +44,17 @@ fn rules_color(tables: &Tables, name: &[u8], total: usize) -> Option<Color>
 fn rule_color(tables: &Tables, name: &[u8], r: usize) -> Option<Color>
     ensures { result ≡ rule_color tables.now.bundle.now tables.now.rules.now tables.now.selectors.now tables.now.properties.now tables.now.numbers.now name.now r }
 {
-    if any_canvas(
-        tables.selectors,
-        word_of(tables.rules, r, 1),
-        word_of(tables.rules, r, 2),
-    ) {
-        return first_color(
-            tables,
-            name,
-            word_of(tables.rules, r, 3),
-            word_of(tables.rules, r, 4),
-        );
+    if any_canvas(tables.selectors, range_of(tables.rules, r, 1)) {
+        return first_color(tables, name, range_of(tables.rules, r, 3));
     }
     None
 }
 
-// Whether one of the selectors from..to is of the canvas.
-fn any_canvas(selectors: &[u32], from: usize, to: usize) -> bool
-    ensures { result ≡ any_canvas selectors.now (places from (to - from)) }
+// Whether one of a range of selectors is of the canvas.
+fn any_canvas(selectors: &[u32], range: Range) -> bool
+    ensures { result ≡ any_canvas selectors.now (places_in range) }
 {
-    for s in from..to {
+    for s in range.from..range.to {
         if is_canvas(selectors, s) {
             return true;
         }
@@ -78,11 +68,11 @@ fn is_canvas(selectors: &[u32], s: usize) -> bool
     matches!(ObjectKind::of(word_of(selectors, s, 0)), ObjectKind::Canvas)
 }
 
-// The first colour value of this name among the properties from..to.
-fn first_color(tables: &Tables, name: &[u8], from: usize, to: usize) -> Option<Color>
-    ensures { result ≡ first_color tables.now.bundle.now tables.now.properties.now tables.now.numbers.now name.now (places from (to - from)) }
+// The first colour value of this name among a range of properties.
+fn first_color(tables: &Tables, name: &[u8], range: Range) -> Option<Color>
+    ensures { result ≡ first_color tables.now.bundle.now tables.now.properties.now tables.now.numbers.now name.now (places_in range) }
 {
-    for p in from..to {
+    for p in range.from..range.to {
         if let Some(c) = color_at(tables, name, p) {
             return Some(c);
         }

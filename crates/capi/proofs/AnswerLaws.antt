@@ -20,40 +20,42 @@ use Rattle.parser.specs.declared.Counts.{Counts}
 
 -- a load's answer, told
 pub load_told :
-    {x : Result Counts Refusal × Held} {r : Result Counts Refusal} {h : Held} {s : Answer 6} {out out' : List ℕ}
+    {x : Result Counts Refusal × Held} {r : Result Counts Refusal} {h : Held} {s : Answer 6} {k : ℕ} {out out' : List ℕ}
     → (r, h) ≡ x
     → s ≡ told_load r
+    → k ≡ s.kind
     → out' ≡ stored out 0 s.words
-    → LoadAnswered x s.kind h out out'
-load_told {out = out} e f g =
+    → LoadAnswered x k h out out'
+load_told {out = out} e f q g =
     let a = f ∙ ap (λ (y : Result Counts Refusal × Held). told_load y.0) e in
     record {
-      kind = ap (λ (s : Answer 6). s.kind) a;
+      kind = q ∙ ap (λ (s : Answer 6). s.kind) a;
       left_tables = ap (λ (y : Result Counts Refusal × Held). y.1) e;
       stored_words = g ∙ ap (λ (s : Answer 6). stored out 0 s.words) a;
     }
 
-pub told_five : {s f : Answer 5} {out out' : List ℕ} → f ≡ s → out' ≡ stored out 0 f.words → Told s f.kind out out'
-told_five {out = out} e g =
+pub told_five : {s f : Answer 5} {k : ℕ} {out out' : List ℕ} → f ≡ s → k ≡ f.kind → out' ≡ stored out 0 f.words → Told s k out out'
+told_five {out = out} e q g =
     record {
-      kind = ap (λ (s : Answer 5). s.kind) e;
+      kind = q ∙ ap (λ (s : Answer 5). s.kind) e;
       stored_words = g ∙ ap (λ (s : Answer 5). stored out 0 s.words) e;
     }
 
 pub maps_told :
-    {x : Result ℕ Refusal × List ℕ} {r : Result ℕ Refusal} {t : List ℕ} {s : Answer 5} {out out' : List ℕ}
+    {x : Result ℕ Refusal × List ℕ} {r : Result ℕ Refusal} {t : List ℕ} {s : Answer 5} {k : ℕ} {out out' : List ℕ}
     → (r, t) ≡ x
     → s ≡ told_count r
+    → k ≡ s.kind
     → out' ≡ stored out 0 s.words
-    → MapsAnswered x s.kind t out out'
-maps_told e f g =
+    → MapsAnswered x k t out out'
+maps_told e f q g =
     record {
-      told = told_five (f ∙ ap (λ (y : Result ℕ Refusal × List ℕ). told_count y.0) e) g;
+      told = told_five (f ∙ ap (λ (y : Result ℕ Refusal × List ℕ). told_count y.0) e) q g;
       left_maps = ap (λ (y : Result ℕ Refusal × List ℕ). y.1) e;
     }
 
 pub styles_told :
-    {x y : Result EntityStyles Refusal} {ls : List StyledLayer} {f : Answer 5} {words out out' : List ℕ} {floats : List Float}
+    {x y : Result EntityStyles Refusal} {ls : List StyledLayer} {f : Answer 5} {k : ℕ} {words out out' : List ℕ} {floats : List Float}
     {layers : List ℤ}
     → y ≡ x
     → ls ≡ styled_layers y
@@ -62,12 +64,13 @@ pub styles_told :
     → floats ≡ padded zero_float 192 (flat (map row_floats (take 32 ls)))
     → layers ≡ padded (pos 0) 32 (map row_layer (take 32 ls))
     → f ≡ told_styles y
+    → k ≡ f.kind
     → out' ≡ stored out 0 f.words
-    → StylesAnswered x f.kind words floats layers out out'
-styles_told {x} {y} {ls} e c h w f l a o =
+    → StylesAnswered x k words floats layers out out'
+styles_told {x} {y} {ls} e c h w f l a q o =
     let t : take 32 ls ≡ styled_layers x = take_all 32 ls h ∙ c ∙ ap styled_layers e in
     record {
-      told = told_five (a ∙ ap told_styles e) o;
+      told = told_five (a ∙ ap told_styles e) q o;
       left_words = w ∙ ap (λ (ls : List StyledLayer). padded 0 1664 (flat (map row_words ls))) t;
       left_floats = f ∙ ap (λ (ls : List StyledLayer). padded zero_float 192 (flat (map row_floats ls))) t;
       left_layers = l ∙ ap (λ (ls : List StyledLayer). padded (pos 0) 32 (map row_layer ls)) t;
@@ -90,13 +93,14 @@ refused_zero {x} q s =
     )
 
 pub list_told :
-    {x : Result ℕ Refusal × List ℕ} {q : Result ℕ Refusal} {list : List ℕ} {f : Answer 5} {out out' : List ℕ}
+    {x : Result ℕ Refusal × List ℕ} {q : Result ℕ Refusal} {list : List ℕ} {f : Answer 5} {k : ℕ} {out out' : List ℕ}
     → (q, list) ≡ x
     → f ≡ told_count q
+    → k ≡ f.kind
     → out' ≡ stored out 0 f.words
-    → ListAnswered x f.kind list out out'
-list_told e a o =
+    → ListAnswered x k list out out'
+list_told e a k o =
     record {
-      told = told_five (a ∙ ap (λ (y : Result ℕ Refusal × List ℕ). told_count y.0) e) o;
+      told = told_five (a ∙ ap (λ (y : Result ℕ Refusal × List ℕ). told_count y.0) e) k o;
       left_list = ap (λ (y : Result ℕ Refusal × List ℕ). y.1) e;
     }

@@ -33,7 +33,6 @@ ghost use Rattle.settings.specs.Settings.{counts_at, type_of, settings_of};
 ghost use Rattle.answers.specs.Answers.{told_canvas};
 ghost use Rattle.capi.specs.Answered.{Told, LoadAnswered, MapsAnswered, StylesAnswered, ListAnswered};
 
-use answer_words::store_words;
 use answers::{styled_layers, told_canvas, told_count, told_load, told_styles};
 use canvas::canvas_fill_color;
 use parser::load;
@@ -54,9 +53,7 @@ pub fn mapcss_load(
 ) -> u64
     ensures { LoadAnswered (load_of bundle.now (lengths (length rules.old) (length selectors.old) (length tests.old) (length properties.old) (length numbers.old) (length colors.old))) result (held rules.new selectors.new tests.new properties.new numbers.new colors.new) out.old out.new }
 {
-    let six = told_load(load(bundle, rules, selectors, tests, properties, numbers, colors));
-    store_words(out, &six.words);
-    six.kind
+    told_load(load(bundle, rules, selectors, tests, properties, numbers, colors)).tell(out)
 }
 
 pub fn mapcss_property_maps(
@@ -83,9 +80,7 @@ pub fn mapcss_property_maps(
         numbers,
     };
     let n = counts_at(counts);
-    let told = told_count(property_maps(&tables, n, zoom, entity, maps));
-    store_words(out, &told.words);
-    told.kind
+    told_count(property_maps(&tables, n, zoom, entity, maps)).tell(out)
 }
 
 pub fn mapcss_styles(
@@ -123,9 +118,7 @@ pub fn mapcss_styles(
         entity,
     );
     store_layers(styled_layers(&x), words, floats, layers);
-    let five = told_styles(&x);
-    store_words(out, &five.words);
-    five.kind
+    told_styles(&x).tell(out)
 }
 
 pub fn mapcss_canvas_color(
@@ -149,9 +142,7 @@ pub fn mapcss_canvas_color(
         properties,
         numbers,
     };
-    let five = told_canvas(canvas_fill_color(&tables, counts_at(counts), type_of(style_type)));
-    store_words(out, &five.words);
-    five.kind
+    told_canvas(canvas_fill_color(&tables, counts_at(counts), type_of(style_type))).tell(out)
 }
 
 pub fn mapcss_style_entities(
@@ -180,16 +171,15 @@ pub fn mapcss_style_entities(
         properties,
         numbers,
     };
-    let five = told_count(drawing::style_entities(
+    told_count(drawing::style_entities(
         &tables,
         counts_at(counts),
         zoom,
         settings_of(style_type, font, for_labels),
         nodes,
         list,
-    ));
-    store_words(out, &five.words);
-    five.kind
+    ))
+    .tell(out)
 }
 
 pub fn mapcss_style_areas(
@@ -219,7 +209,7 @@ pub fn mapcss_style_areas(
         properties,
         numbers,
     };
-    let five = told_count(drawing::style_areas(
+    told_count(drawing::style_areas(
         &tables,
         counts_at(counts),
         zoom,
@@ -227,7 +217,6 @@ pub fn mapcss_style_areas(
         ways,
         multipolygons,
         list,
-    ));
-    store_words(out, &five.words);
-    five.kind
+    ))
+    .tell(out)
 }

@@ -6,7 +6,7 @@ ghost use Rattle.color.specs.Named.{color_named, first_named, row};
 
 use base::same_bytes;
 
-#[derive(Clone, Copy)]
+#[derive(Clone, Copy, PartialEq)]
 pub struct Color {
     pub r: u8,
     pub g: u8,

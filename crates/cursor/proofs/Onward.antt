@@ -3,6 +3,7 @@ use Prim.Native.Nat.{ℕ, ◌+◌, ◌-◌, ◌<◌, ◌≤◌, ◌^◌}
 use native.Mathlib.Omega.{arith}
 use mathlib.Core.Path.{◌≡◌, refl, sym, ◌∙◌, ap, subst}
 use mathlib.Core.Bool.{false}
+use Rattle.std.specs.Prelude.{Result, Ok, Err}
 use mir.Syntax.{w64}
 use mir.Val.{Fits}
 use lib.Dec.{eqb}
@@ -17,8 +18,6 @@ use Rattle.utf8.specs.declared.Char.TheVariants.{Bad, End, Code}
 use Rattle.utf8.proofs.Rows.{char_within, one_fits}
 use Rattle.cursor.specs.Cursor.{passed, next_char}
 use Rattle.cursor.specs.declared.Cursor.{Cursor}
-use Rattle.cursor.specs.declared.Next.{Next}
-use Rattle.cursor.specs.declared.Next.TheVariants.{Done, Got}
 
 -- a byte below 128 is a character
 pub char_ascii : (s : Bytes) (at : ℕ) → at < length s → get_or s at 0 ≤ 0x7F → Code (get_or s at 0) 1 ≡ char_at s at
@@ -34,15 +33,15 @@ pub record Read (s : Bytes) (c : Cursor) (k : ℕ) (d : Cursor) : Type 0 where
   pub char : char_at s c.at ≡ Code k width
   pub behind : d ≡ passed c (c.at + width) (eqb k 10)
 
-abbrev Seen : Bytes → Cursor → Next → Type 0
-Seen s c (Done d) = Unit {0}
-Seen s c (Got k d) = Read s c k d
+abbrev Seen : Bytes → Cursor → Result (ℕ × Cursor) Cursor → Type 0
+Seen s c (Err d) = Unit {0}
+Seen s c (Ok (k, d)) = Read s c k d
 
-pub read : (s : Bytes) (c d : Cursor) (k : ℕ) → next_char s c ≡ Got k d → Read s c k d
+pub read : (s : Bytes) (c d : Cursor) (k : ℕ) → next_char s c ≡ Ok (k, d) → Read s c k d
 unfolding next_char on-Char
 read s c d k e = subst (Seen s c) e (go (char_at s c.at) refl)
   where
-    go : (r : Char) → char_at s c.at ≡ r → Seen s c (on-Char r (Done (passed c c.at false)) (Done (passed c c.at false)) λ k w. Got k (passed c (c.at + w) (eqb k 10)))
+    go : (r : Char) → char_at s c.at ≡ r → Seen s c (on-Char r (Err (passed c c.at false)) (Err (passed c c.at false)) λ k w. Ok (k, passed c (c.at + w) (eqb k 10)))
     go Bad q = tt
     go End q = tt
     go (Code k w) q = record { width = w; char = q; behind = refl }
@@ -52,9 +51,9 @@ pub record Behind (s : Bytes) (c d : Cursor) : Type 0 where
   pub quiet : (k w : ℕ) → char_at s c.at ≡ Code k w → ⊥
   pub behind : d ≡ passed c c.at false
 
-abbrev Missed : Bytes → Cursor → Next → Type 0
-Missed s c (Done d) = Behind s c d
-Missed s c (Got k d) = Unit {0}
+abbrev Missed : Bytes → Cursor → Result (ℕ × Cursor) Cursor → Type 0
+Missed s c (Err d) = Behind s c d
+Missed s c (Ok (k, d)) = Unit {0}
 
 not_bad : (k w : ℕ) → Bad ≡ Code k w → ⊥
 not_bad k w q = let z : ◌≡◌ {A = ℕ} 0 1 = cc in omega arith
@@ -62,11 +61,11 @@ not_bad k w q = let z : ◌≡◌ {A = ℕ} 0 1 = cc in omega arith
 not_end : (k w : ℕ) → End ≡ Code k w → ⊥
 not_end k w q = let z : ◌≡◌ {A = ℕ} 0 1 = cc in omega arith
 
-pub missed : (s : Bytes) (c d : Cursor) → next_char s c ≡ Done d → Behind s c d
+pub missed : (s : Bytes) (c d : Cursor) → next_char s c ≡ Err d → Behind s c d
 unfolding next_char on-Char
 missed s c d e = subst (Missed s c) e (go (char_at s c.at) refl)
   where
-    go : (r : Char) → char_at s c.at ≡ r → Missed s c (on-Char r (Done (passed c c.at false)) (Done (passed c c.at false)) λ k w. Got k (passed c (c.at + w) (eqb k 10)))
+    go : (r : Char) → char_at s c.at ≡ r → Missed s c (on-Char r (Err (passed c c.at false)) (Err (passed c c.at false)) λ k w. Ok (k, passed c (c.at + w) (eqb k 10)))
     go Bad q = record { quiet = λ k w m. not_bad k w (sym q ∙ m); behind = refl }
     go End q = record { quiet = λ k w m. not_end k w (sym q ∙ m); behind = refl }
     go (Code k w) q = tt
@@ -78,7 +77,7 @@ read_within s c d k r =
     let e : d.at ≡ c.at + r.width = ap (λ (x : Cursor). x.at) r.behind in
     (omega arith, omega arith)
 
-module _ (s : Bytes) (c d : Cursor) (k : ℕ) (r : Next) (e : r ≡ next_char s c) (m : r ≡ Got k d) where
+module _ (s : Bytes) (c d : Cursor) (k : ℕ) (r : Result (ℕ × Cursor) Cursor) (e : r ≡ next_char s c) (m : r ≡ Ok (k, d)) where
   pub next_within : (c.at < d.at) × (d.at ≤ length s)
   next_within = read_within s c d k (read s c d k (sym e ∙ m))
 

@@ -10,30 +10,20 @@ use Rattle.base.specs.Choice.{pick, pick_split}
 use Rattle.base.specs.Option.{on_option, on_result, on_result_option}
 use Rattle.base.specs.Turns.{Turn, more, done, after, turns}
 use Rattle.base.proofs.Loops.{Kept, turns_keep}
+use Rattle.base.proofs.Options.{split_result2}
 use Rattle.space.specs.Space.{is_white_space}
 use Rattle.utf8.specs.Utf8.{char_at}
 use Rattle.cursor.specs.Cursor.{passed, next_char}
-use Rattle.cursor.specs.Elim.{on-Next, on-Significant}
+use Rattle.cursor.specs.Elim.{on-Significant}
 use Rattle.cursor.specs.Blank.{line_turn, skip_line_comment, block_turn, skip_block_comment, try_skip_comment, significant_turn, next_significant_char}
 use Rattle.cursor.specs.Reach.{Reach, here, on, over, Within, AtEnd, Begun}
 use Rattle.cursor.specs.declared.Cursor.{Cursor}
-use Rattle.cursor.specs.declared.Next.{Next}
-use Rattle.cursor.specs.declared.Next.TheVariants.{Done, Got}
 use Rattle.cursor.specs.declared.Significant.{Significant}
 use Rattle.cursor.specs.declared.Significant.TheVariants.{Ended, Found}
 use Rattle.cursor.proofs.Onward.{read, read_within, next_on, missed}
 
 -- what holds in each case holds of the answer
 module _ {B : Type 0} (P : B → Type 0) where
-  pub split-Next :
-      (x : Next) (f : Cursor → B) (g : ℕ → Cursor → B)
-      → ((d : Cursor) → x ≡ Done d → P (f d))
-      → ((k : ℕ) (d : Cursor) → x ≡ Got k d → P (g k d))
-      → P (on-Next x f g)
-  unfolding on-Next
-  split-Next (Done d) f g p q = p d refl
-  split-Next (Got k d) f g p q = q k d refl
-
   pub split-Comment :
       (x : Result (Option Cursor) Cursor) (f : Cursor → B) (a : B) (g : Cursor → B)
       → ((d : Cursor) → x ≡ Err d → P (f d))
@@ -57,12 +47,12 @@ module _ {B : Type 0} (P : B → Type 0) where
   split-Significant (Ok (Found at k d)) f g h p q r = r at k d refl
 
 -- the end stays where it is
-pub end_stays : (s : Bytes) (d e : Cursor) → next_char s d ≡ Done e → e.at ≡ d.at
+pub end_stays : (s : Bytes) (d e : Cursor) → next_char s d ≡ Err e → e.at ≡ d.at
 unfolding passed
 end_stays s d e q = ap (λ (x : Cursor). x.at) (missed s d e q).behind
 
 -- nothing is read behind the end
-pub end_last : {s : Bytes} {c : Cursor} {n : ℕ} {d : Cursor} → Reach s c (suc n) d → (k : ℕ) (e : Cursor) → next_char s d ≡ Got k e → ⊥
+pub end_last : {s : Bytes} {c : Cursor} {n : ℕ} {d : Cursor} → Reach s c (suc n) d → (k : ℕ) (e : Cursor) → next_char s d ≡ Ok (k, e) → ⊥
 end_last {s} {d = d} (over {d = b} r q) k e m =
     let x = read s d e k m in
     (missed s b d q).quiet k x.width (ap (char_at s) (sym (end_stays s b d q)) ∙ x.char)
@@ -88,10 +78,10 @@ module _ {s : Bytes} {c : Cursor} where
   within_more a w = record { ends = w.ends; few = w.few; reach = reach_more a w.reach }
 
 -- one character, or none and the end
-pub reach_one : {s : Bytes} {c d : Cursor} {k : ℕ} → next_char s c ≡ Got k d → Reach s c 0 d
+pub reach_one : {s : Bytes} {c d : Cursor} {k : ℕ} → next_char s c ≡ Ok (k, d) → Reach s c 0 d
 reach_one q = on here q
 
-pub reach_end : {s : Bytes} {c d : Cursor} → next_char s c ≡ Done d → Reach s c 1 d
+pub reach_end : {s : Bytes} {c d : Cursor} → next_char s c ≡ Err d → Reach s c 1 d
 reach_end q = over here q
 
 pub within_0 : {s : Bytes} {c d : Cursor} → Reach s c 0 d → Within 1 s c d
@@ -103,7 +93,7 @@ within_1 r = record { ends = 1; few = omega arith; reach = r }
 -- comments
 line_turn_lem : (s : Bytes) (c d : Cursor) → Reach s c 0 d → Kept (Reach s c 0) (Within 1 s c) (line_turn s d)
 line_turn_lem s c d r =
-    split-Next (Kept (Reach s c 0) (Within 1 s c)) (next_char s d) _ _ (λ e q. within_1 (over r q)) λ k e q.
+    split_result2 (Kept (Reach s c 0) (Within 1 s c)) (next_char s d) _ _ (λ e q. within_1 (over r q)) λ k e q.
     pick_split (Kept (Reach s c 0) (Within 1 s c)) (eqb k 10) _ _ (λ t. within_0 (on r q)) (λ t. on r q)
 
 pub line_reach : (s : Bytes) (c : Cursor) → Within 1 s c (skip_line_comment s c)
@@ -141,11 +131,11 @@ block_turn_lem :
     → Falls (Reach s c 0) (BlockReach s c) (λ x. length s - x.at) (length s - d.at) (block_turn s d)
 block_turn_lem s c d r =
     let P : Turn Cursor (Result Cursor Cursor) → Type 0 = Falls (Reach s c 0) (BlockReach s c) (λ x. length s - x.at) (length s - d.at) in
-    split-Next P (next_char s d) _ _ (λ e q. over r q) λ k e q.
-    let on_one : P (more e) = (on r q, next_on s d e k (Got k e) (sym q) refl) in
+    split_result2 P (next_char s d) _ _ (λ e q. over r q) λ k e q.
+    let on_one : P (more e) = (on r q, next_on s d e k (Ok (k, e)) (sym q) refl) in
     pick_split P (eqb k 42) _ _
     (λ t.
-    split-Next P (next_char s e) _ _ (λ f m. on_one) λ j f m.
+    split_result2 P (next_char s e) _ _ (λ f m. on_one) λ j f m.
     pick_split P (eqb j 47) _ _ (λ u. within_0 (on (on r q) m)) (λ u. on_one))
     (λ t. on_one)
 
@@ -172,7 +162,7 @@ block_more s c d r (Ok e) h = within_more r h
 pub comment_reach : (s : Bytes) (c : Cursor) → CommentReach s c (try_skip_comment s c)
 unfolding try_skip_comment
 comment_reach s c =
-    split-Next (CommentReach s c) (next_char s c) _ _ (λ d q. tt) λ k d q.
+    split_result2 (CommentReach s c) (next_char s c) _ _ (λ d q. tt) λ k d q.
     pick_split (CommentReach s c) (eqb k 47) _ _ (λ t. within_more (reach_one q) (line_reach s d)) λ t.
     pick_split (CommentReach s c) (eqb k 42) _ _ (λ u. block_more s c d (reach_one q) (skip_block_comment s d) (block_reach s d)) (λ u. tt)
 
@@ -182,9 +172,9 @@ module _ (s : Bytes) (c d : Cursor) (r : Result (Option Cursor) Cursor) (e : r �
 
 -- a comment ends behind the slash before it
 pub skipped_on :
-    (s : Bytes) (b c d : Cursor) (k : ℕ) (n : Next) (r : Result (Option Cursor) Cursor)
+    (s : Bytes) (b c d : Cursor) (k : ℕ) (n : Result (ℕ × Cursor) Cursor) (r : Result (Option Cursor) Cursor)
     → n ≡ next_char s b
-    → n ≡ Got k c
+    → n ≡ Ok (k, c)
     → r ≡ try_skip_comment s c
     → r ≡ Ok (Some d)
     → length s - d.at < length s - b.at
@@ -204,7 +194,7 @@ significant_turn_lem :
     → Within 1 s c d
     → Falls (Within 1 s c) (SignificantReach s c) (λ x. length s - x.at) (length s - d.at) (significant_turn s d)
 significant_turn_lem s c d w =
-    split-Next P (next_char s d) _ _
+    split_result2 P (next_char s d) _ _
     (λ e q. record { ends = w.ends; few = w.few; reach = over w.reach q })
     (λ k e q. go w.ends w.reach k e q)
   where
@@ -215,14 +205,14 @@ significant_turn_lem s c d w =
         (n : ℕ)
         → Reach s c n d
         → (k : ℕ) (e : Cursor)
-        → next_char s d ≡ Got k e
+        → next_char s d ≡ Ok (k, e)
         → P (pick (is_white_space k) (more e)
         (pick (eqb k 47)
         (on_result_option (try_skip_comment s e) (λ f. done (Err f)) (done (Ok (Found d.at k e))) more)
         (done (Ok (Found d.at k e)))))
     go zero r k e q =
         let b : Begun s c d.at k e = record { place = d; reach = r; is = refl; char = q } in
-        pick_split P (is_white_space k) _ _ (λ t. (within_0 (on r q), next_on s d e k (Got k e) (sym q) refl)) λ t.
+        pick_split P (is_white_space k) _ _ (λ t. (within_0 (on r q), next_on s d e k (Ok (k, e)) (sym q) refl)) λ t.
         pick_split P (eqb k 47) _ _
         (λ u.
         split-Comment P (try_skip_comment s e) _ _ _
@@ -230,7 +220,7 @@ significant_turn_lem s c d w =
         (λ m. b)
         (λ f m. (
           within_more (on r q) (subst (CommentReach s e) m (comment_reach s e)),
-          skipped_on s d e f k (Got k e) (Ok (Some f)) (sym q) refl (sym m) refl,
+          skipped_on s d e f k (Ok (k, e)) (Ok (Some f)) (sym q) refl (sym m) refl,
         )))
         (λ u. b)
     go (suc n) r k e q = absurd (end_last r k e q)

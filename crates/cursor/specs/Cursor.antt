@@ -1,12 +1,10 @@
 -- The cursor of a text, and the next character.
-use Rattle.std.specs.Prelude.{ℕ, ◌+◌, Bool, false, eqb, ltb}
+use Rattle.std.specs.Prelude.{ℕ, ◌+◌, Bool, false, eqb, ltb, Result, Ok, Err}
 use Rattle.base.specs.Bytes.{Bytes}
 use Rattle.base.specs.Choice.{pick}
 use Rattle.utf8.specs.Utf8.{char_at}
 use Rattle.utf8.specs.Elim.{on-Char}
 use Rattle.cursor.specs.declared.Cursor.{Cursor}
-use Rattle.cursor.specs.declared.Next.{Next}
-use Rattle.cursor.specs.declared.Next.TheVariants.{Done, Got}
 
 abbrev pub cursor : ℕ → ℕ → ℕ → Bool → Cursor
 cursor at line character newline = record { at = at; line = line; character = character; newline = newline }
@@ -33,9 +31,9 @@ passed c to n =
     }
 
 -- the end adds a character; bytes that are no character count as the end
-unfoldable pub next_char : Bytes → Cursor → Next
+unfoldable pub next_char : Bytes → Cursor → Result (ℕ × Cursor) Cursor
 next_char s c =
     on-Char (char_at s c.at)
-    (Done (passed c c.at false))
-    (Done (passed c c.at false))
-    λ k w. Got k (passed c (c.at + w) (eqb k 10))
+    (Err (passed c c.at false))
+    (Err (passed c c.at false))
+    λ k w. Ok (k, passed c (c.at + w) (eqb k 10))

@@ -2,22 +2,8 @@
 use Rattle.std.specs.Prelude.{◌≡◌, ℕ}
 use Rattle.std.proofs.Common.{sym, ap, ◌∙◌}
 use Rattle.cursor.specs.declared.Cursor.{Cursor}
-use Rattle.cursor.specs.declared.Next.{Next}
 use Rattle.cursor.specs.declared.Significant.{Significant}
-use Rattle.cursor.specs.declared.Next.TheVariants.{Done, Got}
 use Rattle.cursor.specs.declared.Significant.TheVariants.{Ended, Found}
-
-unfoldable pub on-Next : {B : Type 0} → Next → (Cursor → B) → (ℕ → Cursor → B) → B
-on-Next (Done x0) k0 k1 = k0 x0
-on-Next (Got x0 x1) k0 k1 = k1 x0 x1
-
-pub Next-Done : {B : Type 0} (x : Next) (k0 : Cursor → B) (k1 : ℕ → Cursor → B) {x0 : Cursor} {y : B} → x ≡ Done x0 → y ≡ k0 x0 → y ≡ on-Next x k0 k1
-unfolding on-Next
-Next-Done x k0 k1 e h = h ∙ sym (ap (λ x. on-Next x k0 k1) e)
-
-pub Next-Got : {B : Type 0} (x : Next) (k0 : Cursor → B) (k1 : ℕ → Cursor → B) {x0 : ℕ} {x1 : Cursor} {y : B} → x ≡ Got x0 x1 → y ≡ k1 x0 x1 → y ≡ on-Next x k0 k1
-unfolding on-Next
-Next-Got x k0 k1 e h = h ∙ sym (ap (λ x. on-Next x k0 k1) e)
 
 unfoldable pub on-Significant : {B : Type 0} → Significant → (Cursor → B) → (ℕ → ℕ → Cursor → B) → B
 on-Significant (Ended x0) k0 k1 = k0 x0

@@ -7,11 +7,10 @@ use Rattle.base.specs.Choice.{pick}
 use Rattle.base.specs.Turns.{Turn, more, done, turns}
 use Rattle.cursor.specs.Class.{to_digit}
 use Rattle.cursor.specs.Cursor.{bump, next_char}
-use Rattle.cursor.specs.Elim.{on-Next}
 use Rattle.cursor.specs.declared.Cursor.{Cursor}
 use Rattle.cursor.specs.declared.number.Sum.{Sum}
 use Rattle.cursor.specs.declared.number.Digits.{Digits}
-use Rattle.base.specs.Option.{on_option}
+use Rattle.base.specs.Option.{on_option, on_result2}
 
 abbrev pub one : Float
 one = of_bits binary64 0x3ff0_0000_0000_0000
@@ -65,7 +64,7 @@ digits x c = record { sum = x; end = c }
 
 abbrev pub digits_turn : Bytes → Digits → Turn Digits Digits
 digits_turn s x =
-    on-Next (next_char s x.end) (λ d. done x) λ k d.
+    on_result2 (next_char s x.end) (λ d. done x) λ k d.
     on_option (to_digit k 10)
     (pick (takes_dot x.sum k) (more (digits (dotted x.sum) d)) (done x))
     λ v. more (digits (digit_added x.sum v) d)

@@ -1,14 +1,13 @@
 -- The places that reading reaches: character by character, and how often it then read the end.
-use Rattle.std.specs.Prelude.{ℕ, suc, ◌≤◌, ◌≡◌}
+use Rattle.std.specs.Prelude.{ℕ, suc, ◌≤◌, ◌≡◌, Ok, Err}
 use Rattle.base.specs.Bytes.{Bytes}
 use Rattle.cursor.specs.Cursor.{next_char}
 use Rattle.cursor.specs.declared.Cursor.{Cursor}
-use Rattle.cursor.specs.declared.Next.TheVariants.{Done, Got}
 
 pub data Reach (s : Bytes) (c : Cursor) : ℕ → Cursor → Type 0 where
   here : Reach s c 0 c
-  on : {d e : Cursor} {k : ℕ} → Reach s c 0 d → next_char s d ≡ Got k e → Reach s c 0 e
-  over : {d e : Cursor} {n : ℕ} → Reach s c n d → next_char s d ≡ Done e → Reach s c (suc n) e
+  on : {d e : Cursor} {k : ℕ} → Reach s c 0 d → next_char s d ≡ Ok (k, e) → Reach s c 0 e
+  over : {d e : Cursor} {n : ℕ} → Reach s c n d → next_char s d ≡ Err e → Reach s c (suc n) e
 
 -- a place behind so many readings of the end at most
 pub record Within (most : ℕ) (s : Bytes) (c d : Cursor) : Type 0 where
@@ -27,4 +26,4 @@ pub record Begun (s : Bytes) (c : Cursor) (at k : ℕ) (d : Cursor) : Type 0 whe
   pub place : Cursor
   pub reach : Reach s c 0 place
   pub is : at ≡ place.at
-  pub char : next_char s place ≡ Got k d
+  pub char : next_char s place ≡ Ok (k, d)

@@ -2,7 +2,7 @@
 ghost use Rattle.std.specs.Prelude.{◌≡◌};
 ghost use Rattle.cursor.specs.Blank.{next_significant_char, try_skip_comment, skip_line_comment, skip_block_comment};
 
-use crate::{Cursor, Next, Significant};
+use crate::{Cursor, Significant};
 use space::is_white_space;
 
 // The next character that is no blank and in no comment. Its error is the end, where a comment is still open.
@@ -11,38 +11,26 @@ pub fn next_significant_char(s: &[u8], c: Cursor) -> Result<Significant, Cursor>
 {
     let mut d = c;
     loop {
-        let at = d.at;
-        match d.next_char(s) {
-            Next::Done(e) => {
-                return Ok(Significant::Ended(e));
-            }
-            Next::Got(k, e) => {
-                if is_white_space(k) {
-                    d = e;
-                } else if k == 47 {
-                    match try_skip_comment(s, e)? {
-                        None => {
-                            return Ok(Significant::Found(at, k, e));
-                        }
-                        Some(f) => {
-                            d = f;
-                        }
-                    }
-                } else {
-                    return Ok(Significant::Found(at, k, e));
-                }
-            }
-        }
+        d = match d.next_char(s) {
+            Err(e) => return Ok(Significant::Ended(e)),
+            Ok((k, e)) if is_white_space(k) => e,
+            Ok((47, e)) => match try_skip_comment(s, e)? {
+                None => return Ok(Significant::Found(d.at, 47, e)),
+                Some(f) => f,
+            },
+            Ok((k, e)) => return Ok(Significant::Found(d.at, k, e)),
+        };
     }
 }
 
 // The place behind the comment whose first slash was read, if it is one. Its error is the end, where the comment is still open.
+#[tactic(auto, unfolding(crate::specs::Blank::try_skip_comment, base::specs::Option::on_result, base::specs::Choice::pick))]
 pub fn try_skip_comment(s: &[u8], c: Cursor) -> Result<Option<Cursor>, Cursor>
     ensures { result ≡ try_skip_comment s.now c }
 {
     match c.next_char(s) {
-        Next::Got(47, d) => Ok(Some(skip_line_comment(s, d))),
-        Next::Got(42, d) => Ok(Some(skip_block_comment(s, d)?)),
+        Ok((47, d)) => Ok(Some(skip_line_comment(s, d))),
+        Ok((42, d)) => Ok(Some(skip_block_comment(s, d)?)),
         _ => Ok(None),
     }
 }
@@ -54,15 +42,8 @@ pub fn skip_line_comment(s: &[u8], c: Cursor) -> Cursor
     let mut d = c;
     loop {
         match d.next_char(s) {
-            Next::Done(e) => {
-                return e;
-            }
-            Next::Got(k, e) => {
-                if k == 10 {
-                    return e;
-                }
-                d = e;
-            }
+            Ok((10, e)) | Err(e) => return e,
+            Ok((_, e)) => d = e,
         }
     }
 }
@@ -73,18 +54,12 @@ pub fn skip_block_comment(s: &[u8], c: Cursor) -> Result<Cursor, Cursor>
 {
     let mut d = c;
     loop {
-        match d.next_char(s) {
-            Next::Done(e) => {
-                return Err(e);
-            }
-            Next::Got(k, e) => {
-                if k == 42 {
-                    if let Next::Got(47, f) = e.next_char(s) {
-                        return Ok(f);
-                    }
-                }
-                d = e;
-            }
+        let (k, e) = d.next_char(s)?;
+        if k == 42
+            && let Ok((47, f)) = e.next_char(s)
+        {
+            return Ok(f);
         }
+        d = e;
     }
 }

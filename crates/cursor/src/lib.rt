@@ -1,7 +1,7 @@
 // The cursor of a text and what the tokenizer builds on: the next character, classes of characters, blanks, digits.
 #![tactic(auto)]
 
-ghost use Rattle.std.specs.Prelude.{◌≡◌, ◌&&◌, leb};
+ghost use Rattle.std.specs.Prelude.{◌≡◌};
 ghost use Rattle.utf8.specs.Utf8.{char_at};
 ghost use Rattle.cursor.specs.Cursor.{start, bump, passed, next_char};
 ghost use Rattle.cursor.specs.Class.{can_be_in_at_directive, can_start_identifier, can_continue_identifier, digit_value, to_digit};
@@ -19,14 +19,6 @@ pub struct Cursor {
     pub line: usize,
     pub character: usize,
     pub newline: bool,
-}
-
-// The end, with a character more, or a character and the place behind it.
-// Bytes that are no character count as the end: texts are checked to be UTF-8 before.
-#[derive(Clone, Copy)]
-pub enum Next {
-    Done(Cursor),
-    Got(u32, Cursor),
 }
 
 // The end, or a character that is no blank: its place, itself, the place behind it.
@@ -48,15 +40,16 @@ impl Cursor {
         }
     }
 
-    // The next character. There is no peek_char: a caller that only looks keeps its own cursor.
-    pub fn next_char(self, s: &[u8]) -> Next
+    // The next character and the place behind it. The error is the end, with a character more.
+    // Bytes that are no character count as the end: texts are checked to be UTF-8 before.
+    // There is no peek_char: a caller that only looks keeps its own cursor.
+    pub fn next_char(self, s: &[u8]) -> Result<(u32, Cursor), Cursor>
         ensures { result ≡ next_char s.now self }
     {
         let at = self.at;
         match peek(s, at) {
-            Char::Bad => Next::Done(self.passed(at, false)),
-            Char::End => Next::Done(self.passed(at, false)),
-            Char::Code(k, w) => Next::Got(k, self.passed(at + w, k == 10)),
+            Char::Bad | Char::End => Err(self.passed(at, false)),
+            Char::Code(k, w) => Ok((k, self.passed(at + w, k == 10))),
         }
     }
 
@@ -100,23 +93,26 @@ pub fn bump(n: usize) -> usize
     n.saturating_add(1)
 }
 
+#[tactic(auto, unfolding(crate::specs::Class::can_be_in_at_directive, base::specs::Choice::pick))]
 pub fn can_be_in_at_directive(k: u32) -> bool
     ensures { result ≡ can_be_in_at_directive k }
 {
-    k == 95 || in_span(97, 122, k) || in_span(48, 57, k)
+    matches!(k, 95 | 97..=122 | 48..=57)
 }
 
+#[tactic(auto, unfolding(crate::specs::Class::can_start_identifier, base::specs::Choice::pick))]
 pub fn can_start_identifier(k: u32) -> bool
     ensures { result ≡ can_start_identifier k }
 {
-    k == 95 || in_span(97, 122, k) || in_span(65, 90, k)
+    matches!(k, 95 | 97..=122 | 65..=90)
 }
 
 // - . / and 0 to 9 stand in a row.
+#[tactic(auto, unfolding(crate::specs::Class::can_continue_identifier, base::specs::Choice::pick))]
 pub fn can_continue_identifier(k: u32) -> bool
     ensures { result ≡ can_continue_identifier k }
 {
-    in_span(45, 57, k) || can_start_identifier(k)
+    matches!(k, 45..=57) || can_start_identifier(k)
 }
 
 // Rust's char::to_digit, for a radix up to 36.
@@ -128,6 +124,7 @@ pub fn to_digit(k: u32, radix: u8) -> Option<u8>
 }
 
 // The value of a digit or letter, and 255 for any other character.
+#[tactic(auto, unfolding(crate::specs::Class::digit_value, base::specs::Choice::pick))]
 fn digit_value(k: u32) -> u8
     ensures { result ≡ digit_value k }
 {
@@ -137,10 +134,4 @@ fn digit_value(k: u32) -> u8
         97..=122 => (k - 87) as u8,
         _ => 255,
     }
-}
-
-pub fn in_span(low: u32, high: u32, k: u32) -> bool
-    ensures { result ≡ leb low k && leb k high }
-{
-    low <= k && k <= high
 }

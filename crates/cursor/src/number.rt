@@ -2,7 +2,7 @@
 ghost use Rattle.std.specs.Prelude.{◌≡◌};
 ghost use Rattle.cursor.specs.Number.{add_digit, times_odd, pow_ten, digit_added, dotted, takes_dot, size, sign, value, read_digits};
 
-use crate::{Cursor, Next, bump, to_digit};
+use crate::{Cursor, bump, to_digit};
 
 // The digits before the dot and after it so far, how many stand after it, and whether it was read:
 // number, number_after_dot, digits_after_dot and had_dot of the Rust.
@@ -26,27 +26,15 @@ pub fn read_digits(s: &[u8], c: Cursor, sum: Sum) -> Digits
 {
     let mut d = c;
     let mut x = sum;
-    loop {
-        match d.next_char(s) {
-            Next::Done(_) => {
-                return Digits { sum: x, end: d };
-            }
-            Next::Got(k, e) => match to_digit(k, 10) {
-                None => {
-                    if x.takes_dot(k) {
-                        x = x.dotted();
-                        d = e;
-                    } else {
-                        return Digits { sum: x, end: d };
-                    }
-                }
-                Some(v) => {
-                    x = x.digit_added(v);
-                    d = e;
-                }
-            },
-        }
+    while let Ok((k, e)) = d.next_char(s) {
+        x = match to_digit(k, 10) {
+            Some(v) => x.digit_added(v),
+            None if x.takes_dot(k) => x.dotted(),
+            None => break,
+        };
+        d = e;
     }
+    Digits { sum: x, end: d }
 }
 
 impl Sum {

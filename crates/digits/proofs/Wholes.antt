@@ -8,6 +8,7 @@ use lib.Ieee.Back.{round_whole, Float-back_unsigned}
 use lib.Ieee.Bits.{to_bits-lt}
 use lib.Ieee.Fits.{down_pos, neg-fits}
 use borrow.Author.Tests.{lt-leb, eqb-false}
+use Rattle.std.specs.Float.{is_sign_negative, float_with_sign}
 use Rattle.base.specs.Choice.{pick, by-test, clash, and_left}
 use Rattle.sheet.specs.Digits.{has_minus, unsigned_of, size_of, is_whole}
 
@@ -43,6 +44,20 @@ unsigned_inf false = refl
 unsigned_nan : unsigned_of nan ≡ nan
 unfolding unsigned_of has_minus to_bits pick neg
 unsigned_nan = refl
+
+-- the sign and the size as the library gives them
+pub sign_is : (x : Float) → T (fits binary64 x) → T (not (is_nan x)) → is_sign_negative x ≡ has_minus x
+unfolding is_sign_negative is_nan has_minus to_bits neg
+sign_is nan p h = absurd h
+sign_is (inf true) p h = refl
+sign_is (inf false) p h = refl
+sign_is (fin s m e) p h = sym (sign_of s m e p)
+
+pub size_is : (x : Float) → T (fits binary64 x) → float_with_sign false x ≡ unsigned_of x
+unfolding float_with_sign
+size_is nan p = sym unsigned_nan
+size_is (inf s) p = sym (unsigned_inf s)
+size_is (fin s m e) p = sym (unsigned_fin s m e p)
 
 -- what a number is without its sign
 data Unsigned : Float → Type 0 where

@@ -139,22 +139,22 @@ module _ (v : Bytes) (x : Float) (w : Bool) (W : w ≡ is_whole x) where
     unfolding digits_for pick
     digits_plus r p q = rw (whole_is h, sym S ∙ p, sym N) q
 
-    module _ (p : s ≡ true) (b : ℕ) (B : b ≡ get_or v 0 0) where
+    module _ (p : s ≡ true) where
       minus_is : digits_for x ≡ 45 ∷ natural_digits n
       unfolding digits_for pick
       minus_is = rw (whole_is h, sym S ∙ p, sym N)
 
-      pub digits_minus : (t : Bytes) (r : Bool) → b ≡ 45 → t ≡ drop 1 v → r ≡ same t (natural_digits n) → r ≡ same v (digits_for x)
+      pub digits_minus : (t : Bytes) (r : Bool) → get_or v 0 0 ≡ 45 → t ≡ drop 1 v → r ≡ same t (natural_digits n) → r ≡ same v (digits_for x)
       unfolding same
-      digits_minus t r q T e = rw minus_is (e ∙ ap (λ (k : Bytes). same k (natural_digits n)) T ∙ go v (sym B ∙ q))
+      digits_minus t r q T e = rw minus_is (e ∙ ap (λ (k : Bytes). same k (natural_digits n)) T ∙ go v q)
         where
           go : (v : Bytes) → get_or v 0 0 ≡ 45 → same (drop 1 v) (natural_digits n) ≡ same v (45 ∷ natural_digits n)
           go [] q = absurd (omega arith)
           go (y ∷ v) q = rw (eq-eqb y 45 q)
 
-      pub digits_sign : (b ≡ 45 → ⊥) → false ≡ same v (digits_for x)
+      pub digits_sign : (get_or v 0 0 ≡ 45 → ⊥) → false ≡ same v (digits_for x)
       unfolding same
-      digits_sign q = rw minus_is (go v (λ z. q (B ∙ z)))
+      digits_sign q = rw minus_is (go v q)
         where
           go : (v : Bytes) → (get_or v 0 0 ≡ 45 → ⊥) → false ≡ same v (45 ∷ natural_digits n)
           go [] q = refl

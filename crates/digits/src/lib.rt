@@ -1,11 +1,9 @@
 // Whole numbers and their decimal digits.
 #![tactic(auto)]
 
-ghost use Rattle.std.specs.Prelude.{◌≡◌, true, not, T, drop, is_nan};
+ghost use Rattle.std.specs.Prelude.{◌≡◌, true, not, T, is_nan};
 ghost use Rattle.base.specs.Bytes.{same};
 ghost use Rattle.sheet.specs.Digits.{has_minus, unsigned_of, size_of, is_whole, natural_digits, digits_for};
-
-use base::Range;
 
 // Whether a number of a text test is whole: at most 2 ^ 53 - 1 in size, without a fraction.
 pub fn is_whole(x: f64) -> bool
@@ -28,10 +26,10 @@ pub fn is_digits_of(v: &[u8], x: f64) -> bool
     if is_whole(x) {
         let n = size_of(x);
         if has_minus(x) {
-            if base::byte_at(v, 0) == 45 {
-                return is_natural(tail(v), n);
-            }
-            return false;
+            return match v {
+                [b'-', rest @ ..] => is_natural(rest, n),
+                _ => false,
+            };
         }
         return is_natural(v, n);
     }
@@ -39,12 +37,11 @@ pub fn is_digits_of(v: &[u8], x: f64) -> bool
 }
 
 // Whether the sign bit is set.
-#[tactic(auto, unfolding(sheet::specs::Digits::has_minus))]
 fn has_minus(x: f64) -> bool
     requires { T (not (is_nan x)) }
     ensures { result ≡ has_minus x }
 {
-    9223372036854775808 <= f64::to_bits(x)
+    x.is_sign_negative()
 }
 
 // A number without its sign.
@@ -52,7 +49,7 @@ fn without_sign(x: f64) -> f64
     requires { T (not (is_nan x)) }
     ensures { result ≡ unsigned_of x }
 {
-    if has_minus(x) { -x } else { x }
+    x.abs()
 }
 
 // The size of a whole number.
@@ -79,17 +76,4 @@ fn is_natural(v: &[u8], n: u64) -> bool
         rest /= 10;
     }
     false
-}
-
-// All but the first byte.
-pub fn tail(v: &[u8]) -> &[u8]
-    ensures { result.now ≡ drop 1 v.now }
-{
-    base::part(
-        v,
-        Range {
-            from: 1,
-            to: v.len(),
-        },
-    )
 }

@@ -7,7 +7,7 @@ ghost use Rattle.std.specs.Prelude.{◌≡◌, ◌+◌, ◌≤◌, ◌<◌, leng
 use base::{Range, byte_at, part};
 use capi::{mapcss_load, mapcss_style_areas, mapcss_style_entities};
 use std::io;
-use stdio::cases::{ends_at, float_at, is_told, piece_at, replay, short_at, words_are};
+use stdio::cases::{count_at, ends_at, float_at, is_told, piece_at, replay, short_at, words_are};
 use table::Tables;
 
 // What out holds before.
@@ -112,7 +112,7 @@ fn lists_as(
     } else {
         entities_of(t, counts, settings, first, list, &mut out)
     };
-    let n = entry_count(answer, number);
+    let n = count_at(answer, number, 1);
     is_told(answer, number, &out, n as u64)
         && out[5] == UNSET
         && words_are(list, answer, 3, 3 * n)
@@ -175,14 +175,4 @@ fn entities_of(
         list,
         out,
     )
-}
-
-// The stored number of entries; a refusal leaves none.
-fn entry_count(answer: &[u8], number: u64) -> usize
-    ensures { result ≤ 65535 }
-{
-    if number == 0 {
-        return short_at(answer, 1);
-    }
-    0
 }

@@ -1,6 +1,6 @@
 -- Laws of the two lists, one for each way through the code, over plain lists and numbers.
 use Prim.Native.Nat.{ℕ, ◌≤◌}
-use mathlib.Core.Path.{◌≡◌, refl, sym, ◌∙◌, ap, ap₂}
+use mathlib.Core.Path.{◌≡◌, sym, ◌∙◌, ap, ap₂}
 use mathlib.Core.Bool.{Bool, true, false}
 use mathlib.Core.List.{List, [], ◌++◌}
 use native.Mathlib.Omega.{arith}
@@ -24,27 +24,7 @@ use Rattle.drawing.specs.Gather.{Gathered, stopped, gathered, on-Gathered, gathe
 use Rattle.drawing.specs.Lists.{room_of, entries_of, listed, ordered, nodes_of, areas_of}
 use Rattle.drawing.proofs.ListLaws.{length_sort}
 use Rattle.drawing.specs.declared.Drawing.{Drawing}
-use Rattle.std.specs.Prelude.{Result, Ok, Err, is_ok}
-use Rattle.std.proofs.Common.{true≢false}
-
--- what the check of the tables says, by its answer
-pub judged_err :
-    {A E : Type 0} (b : Bool) (x : A) {j : Result A E} {y e : E}
-    → j ≡ pick b (Ok x) (Err y)
-    → j ≡ Err e
-    → (b ≡ false) × (e ≡ y)
-unfolding pick
-judged_err true _ h q = absurd (true≢false (ap is_ok (sym h ∙ q)))
-judged_err false _ h q = (refl, let p = sym q ∙ h in cc)
-
-pub judged_ok :
-    {A E : Type 0} (b : Bool) (y : E) {j : Result A E} {x a : A}
-    → j ≡ pick b (Ok x) (Err y)
-    → j ≡ Ok a
-    → (b ≡ true) × (a ≡ x)
-unfolding pick
-judged_ok true _ h q = (refl, let p = sym q ∙ h in cc)
-judged_ok false _ h q = absurd (true≢false (ap is_ok (sym q ∙ h)))
+use Rattle.std.specs.Prelude.{Result, Ok, Err}
 
 -- what a Drawing gathers
 abbrev pub gathered_by : ℕ → Sort → Bool → Bytes → List Key → Drawing → Gathered

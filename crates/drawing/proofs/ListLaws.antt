@@ -8,12 +8,11 @@ use native.Mathlib.Numerals.{add-one}
 use lib.ListN.{length, take, drop, get_or, set, length-append, drop_of_length-le, length-drop}
 use lib.Seq.{take-suc, drop-cons, set_at, append_snoc, length-take-le, take_at, drop_at, take_all}
 use Rattle.base.specs.Choice.{by-test}
-use Rattle.base.specs.Table.{padded, flat}
+use Rattle.base.specs.Table.{padded, flat, stored}
 use Rattle.base.proofs.Tables.{padded_entry}
 use Rattle.cascade.specs.Sort.{place, sort}
 use Rattle.cascade.proofs.SortLaws.{sort_map}
 use Rattle.decode.specs.Decode.{places}
-use Rattle.table.specs.Value.{word}
 use Rattle.order.specs.declared.Key.{Key}
 use Rattle.order.specs.Keys.{zero_key, key_at, key_le, number_le}
 use Rattle.drawing.specs.Lists.{entry_words, entry_at, entries_of}
@@ -69,13 +68,11 @@ module _ (keys : List Key) (order : List ℕ) (len : ℕ) where
       → k ≡ key_at keys (get_or order i 0)
       → (u : List ℕ)
       → u ≡ written i
-      → set (set (set u (i * 3) (word k.stream)) (i * 3 + 1) (word k.place)) (i * 3 + 2) (word k.styled) ≡ written (i + 1)
+      → stored u (i * 3) (entry_words k) ≡ written (i + 1)
   write_more i k h w p u q =
-      let e : i * 3 + 2 ≡ i * 3 + 1 + 1 = omega arith in
       let n : length (flat (map (entry_at keys) (take i order))) ≡ i * 3 =
       length_entries (take i order) ∙ ap (λ n. n * 3) (length-take-le i order (omega arith)) in
-      ap (λ j. set (set (set u (i * 3) (word k.stream)) (i * 3 + 1) (word k.place)) j (word k.styled)) e
-      ∙ ap (λ u. set (set (set u (i * 3) (word k.stream)) (i * 3 + 1) (word k.place)) (i * 3 + 1 + 1) (word k.styled)) q
+      ap (λ u. stored u (i * 3) (entry_words k)) q
       ∙ padded_entry 0 len 3 i (map (entry_at keys) (take i order)) (entry_words k) n refl w
       ∙ ap (λ es. padded 0 len (flat es))
       (ap (λ l. map (entry_at keys) (take i order) ++ (l ∷ [])) (ap entry_words p)

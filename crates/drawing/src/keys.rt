@@ -12,7 +12,7 @@ use entity::{Entity, EntityRange, StreamPlace};
 use order::Key;
 use style::Row;
 use styles::parts::{is_styled, tag_layer};
-use walk::maps::{Layers, row_of};
+use walk::maps::Layers;
 
 impl Drawing<'_> {
     // Whether the z-index of a styled layer, of the first m of a table of maps, is NaN.
@@ -23,11 +23,7 @@ impl Drawing<'_> {
             if !is_styled(self.tables, maps, i) {
                 continue;
             }
-            let row = Row {
-                tables: self.tables,
-                numbers: row_of(maps, i),
-            };
-            if row.z_index(kind).is_nan() {
+            if Row::at(self.tables, maps, i).z_index(kind).is_nan() {
                 return true;
             }
         }
@@ -73,10 +69,7 @@ impl Drawing<'_> {
     ) -> Key
         ensures { result ≡ key_of self.now.tables.now.bundle.now self.now.tables.now.properties.now self.now.tables.now.numbers.now self.now.for_labels place.multipolygons place.place e.kind e.id layer maps.now k i }
     {
-        let row = Row {
-            tables: self.tables,
-            numbers: row_of(maps, i),
-        };
+        let row = Row::at(self.tables, maps, i);
         Key {
             layer: layer_rank(layer),
             fill: fill_rank(self.for_labels, row.is_foreground_fill()),

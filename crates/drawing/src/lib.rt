@@ -7,13 +7,13 @@ ghost use Rattle.base.specs.Refusal.{refusal};
 ghost use Rattle.valid.specs.Valid.{tables_sound};
 ghost use Rattle.drawing.specs.Lists.{room_of, nodes_of, areas_of};
 
-use base::refusal::{Refusal, TABLE_BROKEN};
+use base::refusal::Refusal;
 use entity::Sort;
 use list::write_list;
 use order::ZERO_KEY;
 use style::Settings;
 use table::Tables;
-use valid::{Counts, are_sound};
+use valid::{Counts, judge};
 
 mod gather;
 mod keys;
@@ -38,9 +38,7 @@ impl<'a> Drawing<'a> {
     ) -> Result<Drawing<'a>, Refusal>
         ensures { result ≡ pick (tables_sound tables.now.rules.now tables.now.selectors.now tables.now.tests.now tables.now.properties.now tables.now.numbers.now n (length tables.now.bundle.now)) (Ok (record { tables = tables.entry; total = n.rules; zoom = zoom; for_labels = settings.for_labels })) (Err (refusal 22 0 0 0 0)) }
     {
-        if !are_sound(tables, n) {
-            return Err(Refusal::plain(TABLE_BROKEN));
-        }
+        judge(tables, n)?;
         Ok(Drawing {
             tables,
             total: n.rules,
@@ -100,9 +98,5 @@ fn room_of(len: usize) -> usize
     ensures most { result ≤ 4096 }
     ensures fits { result * 3 ≤ len }
 {
-    let n = len / 3;
-    if n < 4096 {
-        return n;
-    }
-    4096
+    (len / 3).min(4096)
 }

@@ -6,7 +6,7 @@ ghost use Rattle.decode.specs.Decode.{places};
 ghost use Rattle.order.specs.Keys.{key_le};
 ghost use Rattle.drawing.specs.Lists.{entry_at, entries_of};
 
-use base::at_or;
+use base::{at_or, store_all};
 use order::{Key, ZERO_KEY, sort_entries};
 
 // Writes keys into a list of zeros, in drawing order; those behind the first `ways` come first where they tie.
@@ -49,9 +49,11 @@ fn write_entries(order: &[u32], keys: &[Key], list: &mut [u32])
 {
     for (i, &number) in order.iter().enumerate() {
         let k = at_or(keys, number as usize, ZERO_KEY);
-        let at = i * 3;
-        list[at] = (k.stream % 4294967296) as u32;
-        list[at + 1] = (k.place % 4294967296) as u32;
-        list[at + 2] = (k.styled % 4294967296) as u32;
+        let entry = [
+            (k.stream % 4294967296) as u32,
+            (k.place % 4294967296) as u32,
+            (k.styled % 4294967296) as u32,
+        ];
+        store_all(list, i * 3, &entry);
     }
 }

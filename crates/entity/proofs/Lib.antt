@@ -3,3 +3,4 @@ pub mod Ends
 pub mod Nth
 pub mod Inverse
 pub mod Streams
+pub mod Starts

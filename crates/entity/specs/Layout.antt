@@ -10,7 +10,7 @@ use Rattle.base.specs.Map.{Map, key_of}
 use Rattle.base.specs.Refusal.{of_entity}
 use Rattle.base.specs.declared.refusal.Refusal.{Refusal}
 use Rattle.group.specs.Number.{number_at, group_of}
-use Rattle.group.specs.Pair.{range, skip_of, entries_at, all_utf8, map_bytes}
+use Rattle.group.specs.Pair.{Ranges, range, pairs_at, skip_of, entries_at, all_utf8, map_bytes}
 use Rattle.entity.specs.declared.Sort.{Sort}
 use Rattle.entity.specs.declared.Sort.TheVariants.{Any, Nodes, Areas}
 use Rattle.entity.specs.declared.EntityRange.{EntityRange}
@@ -32,7 +32,10 @@ unfoldable pub rising : List Bytes → Bool
 rising [] = true
 rising (x ∷ xs) = rises_from x xs
 
--- the tags of an entity, and its value
+-- the tags of an entity, as pairs of ranges and as bytes, and its value
+abbrev pub tag_ranges : Bytes → EntityRange → List Ranges
+tag_ranges s e = pairs_at e.count s e.tags
+
 unfoldable pub tags_of : Bytes → EntityRange → Map Bytes
 tags_of s e = entries_at e.count s e.tags
 

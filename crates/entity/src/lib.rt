@@ -4,7 +4,7 @@
 ghost use Rattle.std.specs.Prelude.{◌≡◌, map};
 ghost use Rattle.base.specs.Map.{key_of};
 ghost use Rattle.base.specs.Refusal.{of_entity};
-ghost use Rattle.group.specs.Pair.{entries_at};
+ghost use Rattle.group.specs.Pair.{entries_left};
 ghost use Rattle.entity.specs.Layout.{kind_fits, rising, closed_of, tags_at, entity_at, single_of, next_of, nth_from};
 
 use base::refusal::{ENTITY_LAYOUT, NOT_UTF8, Refusal};
@@ -34,6 +34,15 @@ pub struct EntityRange {
 pub struct Entity<'a> {
     pub bytes: &'a [u8],
     pub range: EntityRange,
+}
+
+impl<'a> Entity<'a> {
+    // The tags, as pairs of ranges of the bytes.
+    pub fn tags(self) -> Pairs<'a>
+        ensures { result ≡ record { s = self.entry.bytes; at = self.entry.range.tags; count = self.entry.range.count } }
+    {
+        Pairs::new(self.bytes, self.range.tags, self.range.count)
+    }
 }
 
 // A place in a stream of nodes or ways, or of multipolygons.
@@ -68,7 +77,7 @@ pub fn single_entity(s: &[u8]) -> Result<EntityRange, Refusal>
     if e.end != s.len() {
         return Err(ALONE.refuse(ENTITY_LAYOUT));
     }
-    if group::pairs_utf8(s, e.tags, e.count) {
+    if (Entity { bytes: s, range: e }).tags().are_utf8() {
         return Ok(e);
     }
     Err(ALONE.refuse(NOT_UTF8))
@@ -92,7 +101,7 @@ pub fn next_entity(
     let Some(e) = entity_at(s, at, sort) else {
         return Err(place.refuse(ENTITY_LAYOUT));
     };
-    if group::pairs_utf8(s, e.tags, e.count) {
+    if (Entity { bytes: s, range: e }).tags().are_utf8() {
         return Ok(Some(e));
     }
     Err(place.refuse(NOT_UTF8))
@@ -118,10 +127,7 @@ pub fn nth_entity(s: &[u8], sort: Sort, k: usize) -> Option<Range>
 pub fn entity_at(s: &[u8], at: usize, sort: Sort) -> Option<EntityRange>
     ensures { result ≡ entity_at sort s.now at }
 {
-    if s.len() <= at {
-        return None;
-    }
-    let kind = s[at];
+    let kind = *s.get(at)?;
     if !kind_fits(sort, kind) {
         return None;
     }
@@ -146,7 +152,7 @@ fn tags_at(s: &[u8], at: usize, kind: u8, id: u64, from: usize) -> Option<Entity
 {
     let (n, tags) = group::number_at(s, from, 256)?;
     let count = n as usize;
-    let end = group::skip_pairs(s, tags, count)?;
+    let end = Pairs::new(s, tags, count).end()?;
     closed(
         s,
         at,
@@ -167,15 +173,15 @@ fn closed(s: &[u8], at: usize, e: EntityRange) -> Option<EntityRange>
     if 65536 < e.end.saturating_sub(at) {
         return None;
     }
-    if keys_rise(s, e.tags, e.count) {
+    if keys_rise(Entity { bytes: s, range: e }.tags()) {
         return Some(e);
     }
     None
 }
 
-// Whether the keys of so many tags rise strictly, bytewise.
-fn keys_rise(s: &[u8], at: usize, count: usize) -> bool
-    ensures { result ≡ rising (map key_of (entries_at count s.now at)) }
+// Whether the keys of tags rise strictly, bytewise.
+fn keys_rise(tags: Pairs) -> bool
+    ensures { result ≡ rising (map key_of (entries_left tags.entry)) }
 {
-    Pairs::new(s, at, count).is_sorted_by(|(a, _), (b, _)| bytes_precede(part(s, *a), part(s, *b)))
+    tags.is_sorted_by(|(a, _), (b, _)| bytes_precede(part(tags.s, *a), part(tags.s, *b)))
 }

@@ -126,8 +126,7 @@ fn first_of(name: Name) -> Range
     ensures { result ≡ first_of name }
 {
     match name {
-        Name::Plain(a) => a,
-        Name::Joined(a, _) => a,
+        Name::Plain(a) | Name::Joined(a, _) => a,
     }
 }
 

@@ -3,11 +3,12 @@ use Prim.Native.Nat.{ℕ, zero, suc, ◌+◌, ◌*◌, ◌/◌, ◌%◌, ◌<◌
 use native.Mathlib.Omega.{arith}
 use native.Mathlib.Numerals.{add-one}
 use mathlib.Core.Path.{◌≡◌, sym, ◌∙◌, ap, ap₂}
+use mathlib.Core.Bool.{true, false}
 use mathlib.Core.List.{[], ◌∷◌, ◌++◌}
 use lib.Dec.{ltb, leb, eqb}
 use lib.ListN.{length, get_or, take, drop, drop_of_length-le, length-drop, take-append-drop}
 use lib.Seq.{drop-cons, drop-drop}
-use borrow.Author.Tests.{lt-ltb, le-ltb, le-leb, lt-leb, ne_eqb, ltb-false, leb-true, leb-false, eqb-false}
+use borrow.Author.Tests.{lt-ltb, le-ltb, le-leb, lt-leb, ne_eqb, ltb-true, ltb-false, leb-true, leb-false, eqb-false}
 use Rattle.base.specs.Bytes.{Bytes, AllBytes, none, next}
 use Rattle.base.specs.Choice.{pick, by-test}
 use Rattle.group.specs.Number.{number_from, number_at, groups_of, group_of, single, joined}
@@ -17,25 +18,27 @@ use Rattle.base.proofs.Options.{by_option2, none_some, some2_first, some2_second
 
 -- the first byte decides how to go on
 module _ (s : Bytes) (at most : ℕ) where
-  pub number_end : length s ≤ at → None ≡ number_at s at most
+  pub number_end : false ≡ ltb at (length s) → None ≡ number_at s at most
   unfolding number_at number_from on_option
-  number_end h = rw (drop_of_length-le s h)
+  number_end h = rw (drop_of_length-le s (ltb-false at (length s) (sym h)))
 
-  module _ (h : at < length s) where
-    from_first : number_from (drop at s) ≡ number_from (get_or s at 0 ∷ drop (at + 1) s)
-    from_first = ap number_from (drop-cons s at 0 h ∙ ap (λ (i : ℕ). get_or s at 0 ∷ drop i s) (sym (add-one at)))
+  module _ (h : true ≡ ltb at (length s)) (a : ℕ) (A : a ≡ get_or s at a) where
+    from_first : number_from (drop at s) ≡ number_from (a ∷ drop (at + 1) s)
+    from_first =
+        ap number_from
+        (drop-cons s at a (ltb-true at (length s) (sym h)) ∙ ap₂ (λ (b i : ℕ). b ∷ drop i s) (sym A) (sym (add-one at)))
 
-    pub number_single : get_or s at 0 < 128 → single (get_or s at 0) most (at + 1) ≡ number_at s at most
+    pub number_single : a < 128 → single a most (at + 1) ≡ number_at s at most
     unfolding number_at number_from on_option single pick
     number_single b = rw (from_first, number_from, lt-ltb _ _ b)
 
-    pub number_short : get_or s at 0 < 128 → 128 ≤ most → number_at s at most ≡ Some (get_or s at 0, at + 1)
+    pub number_short : a < 128 → 128 ≤ most → number_at s at most ≡ Some (a, at + 1)
     unfolding single pick
-    number_short b m = sym (number_single b) ∙ (rw (le-leb (get_or s at 0) most (omega arith)))
+    number_short b m = sym (number_single b) ∙ (rw (le-leb a most (omega arith)))
 
-    module _ (b : 128 ≤ get_or s at 0) where
+    module _ (b : 128 ≤ a) where
       -- the number at a place, by the number behind its first byte
-      longer : number_at s at most ≡ on_option2 (number_from (drop (at + 1) s)) None (λ v w. joined (get_or s at 0) v most (at + (w + 1)))
+      longer : number_at s at most ≡ on_option2 (number_from (drop (at + 1) s)) None (λ v w. joined a v most (at + (w + 1)))
       unfolding number_at number_from joined pick on_option
       longer =
           rw (from_first, number_from, le-ltb _ _ b)
@@ -58,10 +61,10 @@ module _ (s : Bytes) (at most : ℕ) where
               (λ z. rw (e, z))
               (λ z.
               let n = eqb-false v 0 z in
-              let l : most < get_or s at 0 % 128 + 128 * v = over v n in
+              let l : most < a % 128 + 128 * v = over v n in
               rw (e, z, lt-leb _ _ l)))
             where
-              over : (v : ℕ) → (v ≡ 0 → ⊥) → most < get_or s at 0 % 128 + 128 * v
+              over : (v : ℕ) → (v ≡ 0 → ⊥) → most < a % 128 + 128 * v
               over v n = omega arith
 
       -- the rest is read up to the 128th part of the bound
@@ -95,18 +98,18 @@ module _ (s : Bytes) (at most : ℕ) where
           (λ t.
           let l = leb-false v (most / 128) t in
           let n : v ≡ 0 → ⊥ = λ z. omega arith in
-          let m : most < get_or s at 0 % 128 + 128 * v = omega arith in
+          let m : most < a % 128 + 128 * v = omega arith in
           rw (d, ne_eqb _ _ n, lt-leb _ _ m))))
 
       pub number_more :
           (r : Option (ℕ × ℕ)) (v p : ℕ)
           → r ≡ number_at s (at + 1) (most / 128)
           → r ≡ Some (v, p)
-          → joined (get_or s at 0) v most p ≡ number_at s at most
+          → joined a v most p ≡ number_at s at most
       unfolding on_option
       number_more r v p e q =
           let o = rest_read v p (sym e ∙ q) in
-          sym (longer ∙ rw o.1.0 (ap (joined (get_or s at 0) v most) (sym o.1.1)))
+          sym (longer ∙ rw o.1.0 (ap (joined a v most) (sym o.1.1)))
 
 -- what is read is at most the bound, and lies within the text
 pub number_most : (s : Bytes) (at most v p : ℕ) → number_at s at most ≡ Some (v, p) → v ≤ most

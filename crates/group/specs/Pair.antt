@@ -49,6 +49,9 @@ unfoldable pub skip_of : ℕ → Bytes → ℕ → Option ℕ
 skip_of zero s at = Some at
 skip_of (suc n) s at = on_option2 (pair_at s at) None λ a b. skip_of n s b.to
 
+abbrev pub end_of : Pairs → Option ℕ
+end_of p = skip_of p.count p.s.now p.at
+
 -- pair number k, from 0
 unfoldable pub nth_of : List Ranges → ℕ → Option (Range × Range)
 nth_of [] k = None
@@ -61,6 +64,10 @@ named s p = entry (within p.0 s) (within p.1 s)
 
 unfoldable pub entries_at : ℕ → Bytes → ℕ → Map Bytes
 entries_at n s at = map (named s) (pairs_at n s at)
+
+-- the bytes that what an iterator has still to give names
+abbrev pub entries_left : Pairs → Map Bytes
+entries_left p = entries_at p.count p.s.now p.at
 
 -- whether each key and each value is UTF-8
 unfoldable pub all_utf8 : Map Bytes → Bool

@@ -3,7 +3,7 @@
 
 ghost use Rattle.std.specs.Prelude.{◌≡◌, ◌/◌, ◌≤◌};
 ghost use Rattle.group.specs.Number.{number_at, single, joined};
-ghost use Rattle.group.specs.Pair.{sized_of, part_at, pair_at, behind, pairs_left, skip_of, pairs_at, nth_of, entries_at, all_utf8};
+ghost use Rattle.group.specs.Pair.{sized_of, part_at, pair_at, behind, pairs_left, entries_left, end_of, all_utf8};
 
 use base::{Range, part};
 use utf8::is_utf8;
@@ -12,10 +12,7 @@ use utf8::is_utf8;
 pub fn number_at(s: &[u8], at: usize, most: u64) -> Option<(u64, usize)>
     ensures { result ≡ number_at s.now at most }
 {
-    if s.len() <= at {
-        return None;
-    }
-    let b = s[at];
+    let b = *s.get(at)?;
     if b < 128 {
         return last_byte(b, most, at + 1);
     }
@@ -55,10 +52,7 @@ fn first_byte(b: u8, v: u64, most: u64, next: usize) -> Option<(u64, usize)>
 pub fn part_at(s: &[u8], at: usize) -> Option<Range>
     ensures { result ≡ part_at s.now at }
 {
-    if s.len() <= at {
-        return None;
-    }
-    let b = s[at];
+    let b = *s.get(at)?;
     if b < 128 {
         return sized(s, b as u64, at + 1);
     }
@@ -76,13 +70,9 @@ fn long_part(s: &[u8], at: usize) -> Option<Range>
 fn sized(s: &[u8], n: u64, from: usize) -> Option<Range>
     ensures { result ≡ sized_of s.now n from }
 {
-    if from <= s.len() {
-        if n <= (s.len() - from) as u64 {
-            return Some(Range {
-                from,
-                to: from + n as usize,
-            });
-        }
+    let to = from.checked_add(n as usize)?;
+    if to <= s.len() {
+        return Some(Range { from, to });
     }
     None
 }
@@ -96,19 +86,34 @@ pub fn pair_at(s: &[u8], at: usize) -> Option<(Range, Range)>
     Some((a, b))
 }
 
-// The pairs of a run, one after the other, as far as they can be read.
+// So many pairs from a place on, one after the other, as far as they can be read.
 #[derive(Clone, Copy)]
 pub struct Pairs<'a> {
-    s: &'a [u8],
-    at: usize,
-    count: usize,
+    pub s: &'a [u8],
+    pub at: usize,
+    pub count: usize,
 }
 
 impl<'a> Pairs<'a> {
     pub fn new(s: &'a [u8], at: usize, count: usize) -> Pairs<'a>
-        ensures { pairs_left result ≡ pairs_at count s.now at }
+        ensures { result ≡ record { s = s.entry; at = at; count = count } }
     {
         Pairs { s, at, count }
+    }
+
+    // The place behind all of them.
+    pub fn end(self) -> Option<usize>
+        ensures { result ≡ end_of self.entry }
+    {
+        (0..self.count).try_fold(self.at, |end, _| behind(self.s, end))
+    }
+
+    // Whether both parts of each are UTF-8.
+    pub fn are_utf8(mut self) -> bool
+        ensures { result ≡ all_utf8 (entries_left self.entry) }
+    {
+        let s = self.s;
+        self.all(|(a, b)| is_utf8(part(s, a)) && is_utf8(part(s, b)))
     }
 }
 
@@ -132,31 +137,10 @@ impl Iterator for Pairs<'_> {
     }
 }
 
-// The place behind so many pairs.
-pub fn skip_pairs(s: &[u8], at: usize, count: usize) -> Option<usize>
-    ensures { result ≡ skip_of count s.now at }
-{
-    (0..count).try_fold(at, |end, _| behind(s, end))
-}
-
 // The place behind the pair at a place.
 fn behind(s: &[u8], at: usize) -> Option<usize>
     ensures { result ≡ behind s.now at }
 {
     let (_, b) = pair_at(s, at)?;
     Some(b.to)
-}
-
-// Pair number k, from 0, of so many pairs.
-pub fn nth_pair(s: &[u8], at: usize, count: usize, k: usize) -> Option<(Range, Range)>
-    ensures { result ≡ nth_of (pairs_at count s.now at) k }
-{
-    Pairs::new(s, at, count).nth(k)
-}
-
-// Whether both parts of so many pairs are UTF-8.
-pub fn pairs_utf8(s: &[u8], at: usize, count: usize) -> bool
-    ensures { result ≡ all_utf8 (entries_at count s.now at) }
-{
-    Pairs::new(s, at, count).all(|(a, b)| is_utf8(part(s, a)) && is_utf8(part(s, b)))
 }

@@ -48,10 +48,11 @@ use Rattle.grammar.specs.Token.{Name, Sign, Token as Token', import, identifier,
 use Rattle.grammar.specs.View.{is_sign, on_import, on_identifier, on_string, on_color_ref, on_number, on_zoom_range, on_color}
 use Rattle.grammar.proofs.ViewLaws.{sign_is, import_holds, identifier_holds, string_holds, color_ref_holds, number_holds, zoom_range_holds, color_holds}
 use Rattle.cursor.specs.declared.Cursor.{Cursor}
-use Rattle.input.specs.Text.{placed, name_in, range_of, token_of}
+use Rattle.input.specs.Text.{placed, name_in, range_of, token_of, same_token, mandatory_of, expected_of, expect_of, refusal_at}
 use Rattle.input.specs.declared.Place.{Place}
-use Rattle.std.specs.Prelude.{Result, Ok, Option}
-use Rattle.base.specs.Option.{on_three, on_result3, result_ok}
+use Rattle.input.specs.declared.Source.{Source}
+use Rattle.std.specs.Prelude.{Result, Ok, Err, Option}
+use Rattle.base.specs.Option.{on_result, on_three, on_result3, result_ok}
 
 abbrev pub sign_tag : Sign → ℕ
 sign_tag left_paren = 7
@@ -211,3 +212,45 @@ pub got_known :
     → y ≡ k1 v o d
     → y ≡ on_result3 x k0 k1
 got_known x k0 k1 {o = o} {d = d} e f h = result_ok x k0 (on_three k1) (e ∙ ap (λ t. Ok (t, o, d)) f) h
+
+-- ---- a token that must come, by its sign
+
+module _ (bundle : Bytes) (s : Source) (c : Cursor) where
+  -- the same test of each token
+  by_test :
+      (u : Token) (g : Sign)
+      → ((t : Token) → same_token t u ≡ is_sign g (token_of bundle t))
+      → expected_of bundle u s c ≡ expect_of bundle g s c
+  unfolding expected_of expect_of on_result
+  by_test u g same = go (mandatory_of bundle s c)
+    where
+      go :
+          (m : Result (Token × Place × Cursor) Refusal)
+          → on_result3 m Err (λ t o d. cond (same_token t u) (Ok d) (Err (refusal_at 4 4 o)))
+          ≡ on_result3 m Err (λ t o d. cond (is_sign g (token_of bundle t)) (Ok d) (Err (refusal_at 4 4 o)))
+      go (Err e) = refl
+      go (Ok (t, o, d)) = ap (λ b. cond b (Ok d) (Err (refusal_at 4 4 o))) (same t)
+
+  pub bracket_expected : expected_of bundle RightBracket s c ≡ expect_of bundle right_bracket s c
+  unfolding is_sign token_of
+  bracket_expected = by_test RightBracket right_bracket same
+    where
+      same : (t : Token) → same_token t RightBracket ≡ is_sign right_bracket (token_of bundle t)
+      same RightBracket = refl
+      same t = refl
+
+  pub colon_expected : expected_of bundle Colon s c ≡ expect_of bundle colon s c
+  unfolding is_sign token_of
+  colon_expected = by_test Colon colon same
+    where
+      same : (t : Token) → same_token t Colon ≡ is_sign colon (token_of bundle t)
+      same Colon = refl
+      same t = refl
+
+  pub semicolon_expected : expected_of bundle SemiColon s c ≡ expect_of bundle semi_colon s c
+  unfolding is_sign token_of
+  semicolon_expected = by_test SemiColon semi_colon same
+    where
+      same : (t : Token) → same_token t SemiColon ≡ is_sign semi_colon (token_of bundle t)
+      same SemiColon = refl
+      same t = refl

@@ -1,5 +1,5 @@
 -- A text of the bundle as the grammar's reader sees it: its tokens, with names as ranges of the bundle.
-use Rattle.std.specs.Prelude.{ℕ, ◌+◌, ◌-◌, ◌<◌, cond, List, [], ◌∷◌, length, Float, Result, Ok, Err, Option, Some, None}
+use Rattle.std.specs.Prelude.{ℕ, ◌+◌, ◌-◌, ◌<◌, Bool, cond, List, [], ◌∷◌, length, Float, Result, Ok, Err, Option, Some, None}
 use Rattle.std.proofs.Math.Option.{Option as Option', none, some}
 use Rattle.base.specs.Bytes.{Bytes, within}
 use Rattle.base.specs.Refusal.{refusal}
@@ -13,6 +13,7 @@ use Rattle.token_kind.specs.declared.LexerError.{LexerError}
 use Rattle.token.specs.Step.{step_of}
 use Rattle.token.specs.declared.Step.{Step}
 use Rattle.token.specs.declared.Step.TheVariants.{End, Took}
+use Rattle.token_kind.specs.contracts.TokenPartialEq.TheImpl as token_eq
 use Rattle.token_kind.specs.declared.Token.{Token}
 use Rattle.token_kind.specs.declared.Token.TheVariants.{
   Import,
@@ -177,11 +178,21 @@ mandatory_of bundle s c =
     (λ d. Err (refusal_at 4 1 (reached_at s d)))
     λ t line character d. Ok (t, place s.number line character, d)
 
+-- as == has it
+abbrev pub same_token : Token → Token → Bool
+same_token = (token_eq.ghosts).eq
+
 module _ (bundle : Bytes) where
   unfoldable pub expect_of : Sign → Source → Cursor → Result Cursor Refusal
   expect_of g s c =
       on_result3 (mandatory_of bundle s c) Err λ t o d.
       cond (is_sign g (token_of bundle t)) (Ok d) (Err (refusal_at 4 4 o))
+
+  -- a token that must come: one of a sign u is the same by its sign (proofs/TokenLaws.antt)
+  unfoldable pub expected_of : Token → Source → Cursor → Result Cursor Refusal
+  expected_of u s c =
+      on_result3 (mandatory_of bundle s c) Err λ t o d.
+      cond (same_token t u) (Ok d) (Err (refusal_at 4 4 o))
 
   unfoldable pub word_of : Source → Cursor → Result (Range × Cursor) Refusal
   word_of s c =

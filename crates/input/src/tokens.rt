@@ -1,7 +1,6 @@
 // Tokens of a text of the bundle, their ranges as places of the bundle.
 ghost use Rattle.std.specs.Prelude.{◌≡◌, ◌+◌, ◌<◌};
-ghost use Rattle.input.specs.Text.{Fits, shifted, placed, next_of, refusal_at, reached_at, error_at, mandatory_of, expect_of, word_of, key_of, joined_of, figure_of};
-ghost use Rattle.grammar.specs.Token.{right_bracket, colon, semi_colon};
+ghost use Rattle.input.specs.Text.{Fits, shifted, placed, next_of, refusal_at, reached_at, error_at, mandatory_of, expected_of, word_of, key_of, joined_of, figure_of};
 
 use crate::{Place, Source, Text};
 use base::Range;
@@ -43,34 +42,15 @@ impl Text<'_> {
         }
     }
 
-    pub fn expect_right_bracket(self, c: Cursor) -> Result<Cursor, Refusal>
-        ensures { result ≡ expect_of self.entry.bundle.now right_bracket self.entry.source c }
+    // Behind a token that must come.
+    pub fn expect(self, t: Token, c: Cursor) -> Result<Cursor, Refusal>
+        ensures { result ≡ expected_of self.entry.bundle.now t self.entry.source c }
     {
-        let (t, o, d) = self.read_mandatory_token(c)?;
-        match t {
-            Token::RightBracket => Ok(d),
-            _ => Err(refuse(PARSE, ANOTHER_TOKEN, o)),
+        let (u, o, d) = self.read_mandatory_token(c)?;
+        if u == t {
+            return Ok(d);
         }
-    }
-
-    pub fn expect_colon(self, c: Cursor) -> Result<Cursor, Refusal>
-        ensures { result ≡ expect_of self.entry.bundle.now colon self.entry.source c }
-    {
-        let (t, o, d) = self.read_mandatory_token(c)?;
-        match t {
-            Token::Colon => Ok(d),
-            _ => Err(refuse(PARSE, ANOTHER_TOKEN, o)),
-        }
-    }
-
-    pub fn expect_semicolon(self, c: Cursor) -> Result<Cursor, Refusal>
-        ensures { result ≡ expect_of self.entry.bundle.now semi_colon self.entry.source c }
-    {
-        let (t, o, d) = self.read_mandatory_token(c)?;
-        match t {
-            Token::SemiColon => Ok(d),
-            _ => Err(refuse(PARSE, ANOTHER_TOKEN, o)),
-        }
+        Err(refuse(PARSE, ANOTHER_TOKEN, o))
     }
 
     pub fn read_identifier(self, c: Cursor) -> Result<(Range, Cursor), Refusal>

@@ -1,55 +1,57 @@
 -- A put with its counts, by what the put answers; and the place of a colour, turn by turn.
-use Prim.Native.Nat.{ℕ, zero, suc, ◌+◌, ◌-◌, ◌*◌, ◌/◌, ◌%◌, ◌<◌, ◌≤◌}
+use Prim.Native.Nat.{ℕ, suc, ◌+◌, ◌-◌, ◌<◌, ◌≤◌}
 use native.Mathlib.Omega.{arith}
-use mathlib.Core.Path.{◌≡◌, refl, sym, ap, subst, ◌∙◌}
+use mathlib.Core.Path.{◌≡◌, refl, sym, ap, ◌∙◌}
 use mathlib.Core.Bool.{true, false}
-use mathlib.Core.List.{List, [], ◌∷◌}
-use lib.ListN.{length, set}
-use lib.Seq.{set_out}
+use mathlib.Core.Option.{none, some}
+use mathlib.Core.List.{List}
 use Rattle.base.specs.Bytes.{Bytes, same, within}
-use Rattle.base.specs.Choice.{pick, if_true, if_false}
-use Rattle.base.specs.Option.{option_none_with, option_some_with}
-use Rattle.base.specs.Table.{stored}
+use Rattle.base.specs.Choice.{if_true, if_false}
+use Rattle.base.specs.Option.{on_option, with_option}
+use Rattle.base.proofs.Options.{none_some}
 use Rattle.base.specs.declared.Range.{Range}
 use Rattle.color.specs.declared.Color.{Color}
 use Rattle.entries.specs.Put.{put_of}
 use Rattle.table.specs.Value.{range_at}
-use Rattle.table.specs.declared.Name.{Name}
-use Rattle.table.specs.declared.PropertyValue.{PropertyValue}
-use Rattle.keep.specs.Lent.{keep_of, value_row, word_row, recolored, place_from}
+use Rattle.keep.specs.Lent.{Lent, keep_of, kept, taken, with_colors, add_color_of, keep_color_of, color_added, color_kept, recolored, place_from}
 use Rattle.keep.specs.declared.Tally.{Tally}
 use Rattle.std.specs.Prelude.{Option, Some, None}
 
-module _ {A : Type 0} (stride : ℕ) (t : List A) (n : ℕ) (vs : List A) (f : ℕ → Tally) where
-  pub kept_none : {u : List A} → put_of stride t n vs ≡ (None, u) → (None, u) ≡ keep_of stride t n vs f
-  unfolding keep_of
-  kept_none e = option_none_with _ _ _ e refl
+module _ {A : Type 0} (stride : ℕ) (t : List A) (n : ℕ) (vs : List A) (f : ℕ → Tally) (k : Tally) (g : Tally → List A → Lent) where
+  pub kept_none : {u : List A} → put_of stride t n vs ≡ (None, u) → (None, g k u) ≡ kept k (keep_of stride t n vs f) g
+  unfolding kept keep_of with_option on_option
+  kept_none e = sym (ap (λ x. kept k (with_option x (λ t. (None, t)) λ m t. (Some (f m), t)) g) e)
 
-  pub kept_one : {m : ℕ} {u : List A} → put_of stride t n vs ≡ (Some m, u) → (Some (f m), u) ≡ keep_of stride t n vs f
-  unfolding keep_of
-  kept_one e = option_some_with _ _ _ e refl
+  pub kept_one : {m : ℕ} {u : List A} → put_of stride t n vs ≡ (Some m, u) → (Some tt, g (f m) u) ≡ kept k (keep_of stride t n vs f) g
+  unfolding kept keep_of with_option on_option
+  kept_one e = sym (ap (λ x. kept k (with_option x (λ t. (None, t)) λ m t. (Some (f m), t)) g) e)
 
-pub by_value :
-    (t : List ℕ) (n : ℕ) (name : Range) (x : ℕ) {v w : PropertyValue} {y : Option ℕ × List ℕ}
-    → v ≡ w
-    → y ≡ put_of 8 t n (value_row name w x)
-    → y ≡ put_of 8 t n (value_row name v x)
-by_value t n name x e h = h ∙ ap (λ v. put_of 8 t n (value_row name v x)) (sym e)
+-- a put as the grammar has it, by what it answers
+pub is_full : {A : Type 0} (n : Tally) (x : Option Tally × A) (f : Tally → A → Lent) {τ : Lent} → kept n x f ≡ (None, τ) → taken x f ≡ none
+unfolding kept taken with_option on_option
+is_full n (None, t) f e = refl
+is_full n (Some m, t) f e = none_some (sym (ap (λ (y : Option Unit × Lent). y.0) e))
 
-pub by_name :
-    (t : List ℕ) (n : ℕ) (name : Range) {v w : Name} {y : Option ℕ × List ℕ}
-    → v ≡ w
-    → y ≡ put_of 8 t n (word_row name w)
-    → y ≡ put_of 8 t n (word_row name v)
-by_name t n name e h = h ∙ ap (λ v. put_of 8 t n (word_row name v)) (sym e)
+pub is_put : {A : Type 0} (n : Tally) (x : Option Tally × A) (f : Tally → A → Lent) {y : Unit} {τ : Lent} → kept n x f ≡ (Some y, τ) → taken x f ≡ some τ
+unfolding kept taken with_option on_option
+is_put n (None, t) f e = none_some (ap (λ (y : Option Unit × Lent). y.0) e)
+is_put n (Some m, t) f e = ap (λ (y : Option Unit × Lent). some y.1) e
 
--- nothing is stored past the end
-pub recolored_out : (t : List ℕ) (i : ℕ) (c : Color) → length t / 8 < i → t ≡ recolored t i c
-recolored_out t i c h =
-    let a : length t ≤ i * 8 + 3 = omega arith in
-    let b : length t ≤ i * 8 + 3 + 1 = omega arith in
-    let d : length t ≤ i * 8 + 3 + 1 + 1 = omega arith in
-    rw (set_out t (i * 8 + 3) c.r a, set_out t (i * 8 + 3 + 1) c.g b, set_out t (i * 8 + 3 + 1 + 1) c.b d) refl
+-- a colour, by the place of its name
+module _ (bundle : Bytes) (τ : Lent) (name : Bytes) (r : Range) (c : Color) where
+  pub color_new : {z : Option Unit × Lent} → place_from bundle name τ.colors 0 τ.tally.colors ≡ None → z ≡ color_added τ r c → z ≡ color_kept bundle τ name r c
+  unfolding color_kept keep_color_of color_added on_option
+  color_new e h = h ∙ sym (ap (λ o. kept τ.tally (on_option o (add_color_of τ.tally τ.colors r c) λ i. (Some τ.tally, recolored τ.colors i c)) (with_colors τ)) e)
+
+  pub color_again :
+      {i : ℕ} {t : List ℕ}
+      → place_from bundle name τ.colors 0 τ.tally.colors ≡ Some i
+      → t ≡ recolored τ.colors i c
+      → ◌≡◌ {A = Option Unit × Lent} (Some tt, with_colors τ τ.tally t) (color_kept bundle τ name r c)
+  unfolding color_kept keep_color_of kept with_option on_option
+  color_again e h =
+      ap (λ t. (Some tt, with_colors τ τ.tally t)) h
+      ∙ sym (ap (λ o. kept τ.tally (on_option o (add_color_of τ.tally τ.colors r c) λ i. (Some τ.tally, recolored τ.colors i c)) (with_colors τ)) e)
 
 pub has_name :
     (bundle : Bytes) (t : List ℕ) (i : ℕ) (r : Range) (p name : Bytes)
@@ -76,16 +78,3 @@ module _ (bundle name : Bytes) (t : List ℕ) (n i : ℕ) where
   pub place_none : n ≤ i → None ≡ place_from bundle name t i (n - i)
   unfolding place_from
   place_none h = ap (place_from bundle name t i) (let e : 0 ≡ n - i = omega arith in e)
-
-pub recolored_by :
-    (t u v w : List ℕ) (i : ℕ) (c : Color)
-    → u ≡ set t (i * 8 + 3) c.r
-    → v ≡ set u (i * 8 + 3 + 1) c.g
-    → w ≡ set v (i * 8 + 3 + 2) c.b
-    → w ≡ recolored t i c
-recolored_by t u v w i c e f g =
-    let two : i * 8 + 3 + 2 ≡ i * 8 + 3 + 1 + 1 = omega arith in
-    g ∙ rw (f, e, two) refl
-
-pub stored_same : {A : Type 0} (n : Tally) (t u : List A) → t ≡ u → ◌≡◌ {A = Option Tally × List A} (Some n, t) (Some n, u)
-stored_same n t u e = ap (λ t. (Some n, t)) e

@@ -4,7 +4,6 @@ use Prim.Native.Nat.{ℕ, ◌<◌, ◌≤◌}
 use native.Mathlib.Omega.{arith}
 use mathlib.Core.Path.{◌≡◌, sym, ap, subst, ◌∙◌}
 use mathlib.Core.Bool.{Bool, true, false, cond}
-use mathlib.Core.List.{List}
 use mathlib.Core.Option.{Option, none, some}
 use lib.Ieee.{Float}
 use Rattle.base.specs.Bytes.{Bytes}
@@ -16,18 +15,18 @@ use Rattle.grammar.specs.Token.{Name, Sign, Token as Token'}
 use Rattle.grammar.specs.View.{on_number}
 use Rattle.grammar.specs.Input.{number_entry, Answer, refused, on_option, keep}
 use Rattle.grammar.specs.Reader.{read_mandatory_token, unexpected_token, expect_simple_token, read_identifier}
-use Rattle.keep.specs.Lent.{Lent, lent, keep_number_of, taken, put_entry, lent_store}
+use Rattle.keep.specs.Lent.{Lent, number_kept, put_entry, lent_store}
+use Rattle.keep.proofs.KeepLaws.{is_full, is_put}
 use Rattle.keep.specs.Source.{reading}
 use Rattle.input.specs.Source.{Spot, spot}
 use Rattle.input.specs.Text.{name_in, token_of, left, mandatory_of, expect_of, word_of, figure_of, refusal_at, reached_at}
 use Rattle.input.specs.declared.Place.{Place}
 use Rattle.input.specs.declared.Source.{Source}
-use Rattle.keep.specs.declared.Tally.{Tally}
 use Rattle.input.proofs.Fuel.{mandatory_moves}
 use Rattle.input.proofs.Readers.{mandatory_is, expect_is, word_is, figure_is, expect_moves, word_moves, figure_moves}
 use Rattle.keep.specs.Answers.{Reads, refuses, done}
 use Rattle.std.specs.Prelude.{Some, None, Result, Ok, Err}
-use Rattle.base.specs.Option.{on_option as on_option', with_option, on_result, on_result2, on_result3}
+use Rattle.base.specs.Option.{on_result, on_result2, on_result3}
 
 -- ---- an option that is known
 
@@ -131,26 +130,20 @@ module _ {A : Type 0} (Q : Answer A Spot Lent Refusal → Type 0) (bundle : Byte
   -- ---- storing
 
   pub no_room_number :
-      (x : Float) (c : Cursor) (τ : Lent) (k : Lent → Answer A Spot Lent Refusal) {u : List Float}
-      → keep_number_of τ.tally τ.numbers x ≡ (None, u)
+      (x : Float) (c : Cursor) (τ : Lent) (k : Lent → Answer A Spot Lent Refusal) {τ' : Lent}
+      → number_kept τ x ≡ (None, τ')
       → Q (refused (refusal_at 20 5 (reached_at s c)) τ)
       → Q (keep (reading bundle) (number_entry x) (spot s c) τ k)
-  unfolding put_entry taken with_option on_option'
-  no_room_number x c τ k e q =
-      option_none Q _ _ k
-      (ap (λ y. taken y λ n t. lent n τ.rules τ.selectors τ.tests τ.properties t τ.colors) e)
-      q
+  unfolding put_entry number_kept
+  no_room_number x c τ k e q = option_none Q _ _ k (is_full _ _ _ e) q
 
   pub room_number :
-      (x : Float) (c : Cursor) (τ : Lent) (k : Lent → Answer A Spot Lent Refusal) {n : Tally} {u : List Float}
-      → keep_number_of τ.tally τ.numbers x ≡ (Some n, u)
-      → Q (k (lent n τ.rules τ.selectors τ.tests τ.properties u τ.colors))
+      (x : Float) (c : Cursor) (τ : Lent) (k : Lent → Answer A Spot Lent Refusal) {y : Unit} {τ' : Lent}
+      → number_kept τ x ≡ (Some y, τ')
+      → Q (k τ')
       → Q (keep (reading bundle) (number_entry x) (spot s c) τ k)
-  unfolding put_entry taken with_option on_option'
-  room_number x c τ k e q =
-      option_some Q _ _ k
-      (ap (λ y. taken y λ n t. lent n τ.rules τ.selectors τ.tests τ.properties t τ.colors) e)
-      q
+  unfolding put_entry number_kept
+  room_number x c τ k e q = option_some Q _ _ k (is_put _ _ _ e) q
 
 -- ---- choices
 
@@ -165,9 +158,9 @@ module _ {B : Type 0} (Q : B → Type 0) where
 
 -- a bound may be larger
 pub widen :
-    {A : Type 0} {bundle : Bytes} {s : Source} {b b' : ℕ} {tables : Tally → Lent} {r : Result (Cursor × Tally) Refusal} {a : Answer A Spot Lent Refusal}
+    {A : Type 0} {bundle : Bytes} {s : Source} {b b' : ℕ} {then : Lent} {r : Result Cursor Refusal} {a : Answer A Spot Lent Refusal}
     → b ≤ b'
-    → Reads bundle s b tables r a
-    → Reads bundle s b' tables r a
+    → Reads bundle s b then r a
+    → Reads bundle s b' then r a
 widen h (refuses e) = refuses e
 widen h (done d l) = done d (omega arith)

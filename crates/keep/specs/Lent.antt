@@ -1,5 +1,5 @@
 -- The lent tables as a store of the grammar's reader: the words of each entry, and the counts.
-use Rattle.std.specs.Prelude.{ℕ, zero, suc, ◌+◌, ◌*◌, ◌<◌, List, [], ◌∷◌, length, Float, Option, Some, None}
+use Rattle.std.specs.Prelude.{ℕ, zero, suc, ◌+◌, ◌*◌, List, [], ◌∷◌, length, Float, Option, Some, None}
 use Rattle.std.specs.Borrow.{GName, MutBor}
 use Rattle.std.proofs.Math.Option.{Option as Option', none, some}
 use Rattle.base.specs.Bytes.{Bytes, same, within}
@@ -36,18 +36,60 @@ abbrev pub lent : Tally → List ℕ → List ℕ → List ℕ → List ℕ → 
 lent n rs ss ts ps xs cs =
     record { tally = n; rules = rs; selectors = ss; tests = ts; properties = ps; numbers = xs; colors = cs }
 
--- the tables of a store as they are now
-abbrev pub lent_in : Tally → Store' → Lent
-lent_in n s = lent n s.rules.now s.selectors.now s.tests.now s.properties.now s.numbers.now s.colors.now
+-- a store as it is now
+abbrev pub lent_in : Store' → Lent
+lent_in s = lent s.tally s.rules.now s.selectors.now s.tests.now s.properties.now s.numbers.now s.colors.now
+
+-- the same tables but one
+abbrev pub with_rules : Lent → Tally → List ℕ → Lent
+with_rules τ n t = lent n t τ.selectors τ.tests τ.properties τ.numbers τ.colors
+
+abbrev pub with_selectors : Lent → Tally → List ℕ → Lent
+with_selectors τ n t = lent n τ.rules t τ.tests τ.properties τ.numbers τ.colors
+
+abbrev pub with_tests : Lent → Tally → List ℕ → Lent
+with_tests τ n t = lent n τ.rules τ.selectors t τ.properties τ.numbers τ.colors
+
+abbrev pub with_properties : Lent → Tally → List ℕ → Lent
+with_properties τ n t = lent n τ.rules τ.selectors τ.tests t τ.numbers τ.colors
+
+abbrev pub with_numbers : Lent → Tally → List Float → Lent
+with_numbers τ n t = lent n τ.rules τ.selectors τ.tests τ.properties t τ.colors
+
+abbrev pub with_colors : Lent → Tally → List ℕ → Lent
+with_colors τ n t = lent n τ.rules τ.selectors τ.tests τ.properties τ.numbers t
+
+abbrev pub Lends : Type 0
+Lends = List (GName × ℕ)
 
 -- which tables a store lends, and how long they are; that these stay the same says that none was put in another's place
-abbrev pub lends : Store' → List (GName × ℕ)
+abbrev pub lends : Store' → Lends
 lends s =
     lent_slice s.rules ∷ lent_slice s.selectors ∷ lent_slice s.tests ∷ lent_slice s.properties ∷ lent_slice s.numbers
     ∷ lent_slice s.colors ∷ []
   where
     lent_slice : {A : Type 0} → MutBor (List A) → GName × ℕ
     lent_slice t = (t.ghost_name, length t.now)
+
+-- what storing leaves as it is, a refusal too: storing numbers; a test, with its number; a property, with its numbers; a selector,
+-- with its tests; a rule, with all that it has; a colour
+abbrev pub beside_numbers : Store' → Lends × List ℕ × List ℕ × List ℕ × List ℕ × List ℕ
+beside_numbers s = (lends s, s.rules.now, s.selectors.now, s.tests.now, s.properties.now, s.colors.now)
+
+abbrev pub beside_tests : Store' → Lends × List ℕ × List ℕ × List ℕ × List ℕ
+beside_tests s = (lends s, s.rules.now, s.selectors.now, s.properties.now, s.colors.now)
+
+abbrev pub beside_properties : Store' → Lends × List ℕ × List ℕ × List ℕ × List ℕ
+beside_properties s = (lends s, s.rules.now, s.selectors.now, s.tests.now, s.colors.now)
+
+abbrev pub beside_selectors : Store' → Lends × List ℕ × List ℕ × List ℕ
+beside_selectors s = (lends s, s.rules.now, s.properties.now, s.colors.now)
+
+abbrev pub beside_rules : Store' → Lends × List ℕ
+beside_rules s = (lends s, s.colors.now)
+
+abbrev pub beside_colors : Store' → Lends × List ℕ × List ℕ × List ℕ × List ℕ × List Float
+beside_colors s = (lends s, s.rules.now, s.selectors.now, s.tests.now, s.properties.now, s.numbers.now)
 
 -- so many rules, and nothing else
 abbrev pub counted : ℕ → Tally
@@ -230,24 +272,41 @@ taken x f = with_option x (λ t. none) λ n t. some (f n t)
 
 module _ (bundle : Bytes) where
   unfoldable pub put_entry : Entry → Lent → Option' Lent
-  put_entry rule_entry τ =
-      taken (keep_rule_of τ.tally τ.rules) λ n t.
-      lent n t τ.selectors τ.tests τ.properties τ.numbers τ.colors
+  put_entry rule_entry τ = taken (keep_rule_of τ.tally τ.rules) (with_rules τ)
   put_entry (selector_entry σ) τ =
-      taken (keep_selector_of τ.tally τ.selectors (type_number σ.object_type) (level_in σ.min_zoom) (level_in σ.max_zoom) (layer_in σ.layer_id)) λ n t.
-      lent n τ.rules t τ.tests τ.properties τ.numbers τ.colors
-  put_entry (test_entry x) τ =
-      taken (keep_test_of τ.tally τ.tests (test_row x τ.tally.number)) λ n t.
-      lent n τ.rules τ.selectors t τ.properties τ.numbers τ.colors
+      taken (keep_selector_of τ.tally τ.selectors (type_number σ.object_type) (level_in σ.min_zoom) (level_in σ.max_zoom) (layer_in σ.layer_id))
+      (with_selectors τ)
+  put_entry (test_entry x) τ = taken (keep_test_of τ.tally τ.tests (test_row x τ.tally.number)) (with_tests τ)
   put_entry (property_entry p) τ =
-      taken (keep_property_of τ.tally τ.properties (range_of p.name) (value_shown p.value (fresh_numbers τ.tally))) λ n t.
-      lent n τ.rules τ.selectors τ.tests t τ.numbers τ.colors
-  put_entry (number_entry x) τ =
-      taken (keep_number_of τ.tally τ.numbers x) λ n t.
-      lent n τ.rules τ.selectors τ.tests τ.properties t τ.colors
-  put_entry (color_entry a c) τ =
-      taken (keep_color_of bundle τ.tally τ.colors a.bytes (range_of a) c) λ n t.
-      lent n τ.rules τ.selectors τ.tests τ.properties τ.numbers t
+      taken (keep_property_of τ.tally τ.properties (range_of p.name) (value_shown p.value (fresh_numbers τ.tally))) (with_properties τ)
+  put_entry (number_entry x) τ = taken (keep_number_of τ.tally τ.numbers x) (with_numbers τ)
+  put_entry (color_entry a c) τ = taken (keep_color_of bundle τ.tally τ.colors a.bytes (range_of a) c) (with_colors τ)
 
   abbrev pub lent_store : Store Lent
   lent_store = record { put = put_entry; colors = λ τ. colors_of bundle τ.colors τ.tally.colors }
+
+-- what putting into a store answers, and the store then: where there is no room, the counts stay
+unfoldable pub kept : {A : Type 0} → Tally → Option Tally × A → (Tally → A → Lent) → Option Unit × Lent
+kept n x f = with_option x (λ t. (None, f n t)) λ m t. (Some tt, f m t)
+
+unfoldable pub number_kept : Lent → Float → Option Unit × Lent
+number_kept τ x = kept τ.tally (keep_number_of τ.tally τ.numbers x) (with_numbers τ)
+
+unfoldable pub test_kept : Lent → List ℕ → Option Unit × Lent
+test_kept τ row = kept τ.tally (keep_test_of τ.tally τ.tests row) (with_tests τ)
+
+unfoldable pub property_kept : Lent → Range → PropertyValue → Option Unit × Lent
+property_kept τ name v = kept τ.tally (keep_property_of τ.tally τ.properties name v) (with_properties τ)
+
+unfoldable pub selector_kept : Lent → ℕ → Option ℕ → Option ℕ → Option Range → Option Unit × Lent
+selector_kept τ kind min max layer =
+    kept τ.tally (keep_selector_of τ.tally τ.selectors kind min max layer) (with_selectors τ)
+
+unfoldable pub rule_kept : Lent → Option Unit × Lent
+rule_kept τ = kept τ.tally (keep_rule_of τ.tally τ.rules) (with_rules τ)
+
+unfoldable pub color_added : Lent → Range → Color → Option Unit × Lent
+color_added τ r c = kept τ.tally (add_color_of τ.tally τ.colors r c) (with_colors τ)
+
+unfoldable pub color_kept : Bytes → Lent → Bytes → Range → Color → Option Unit × Lent
+color_kept bundle τ name r c = kept τ.tally (keep_color_of bundle τ.tally τ.colors name r c) (with_colors τ)

@@ -14,11 +14,10 @@ use Rattle.utf8.specs.declared.Char.TheVariants.{Bad, End, Code}
 use Rattle.utf8.proofs.Rows.{char_within}
 use Rattle.cursor.specs.Cursor.{passed, next_char}
 use Rattle.cursor.specs.declared.Cursor.{Cursor}
-use Rattle.cursor.specs.declared.Next.{Next}
-use Rattle.cursor.specs.declared.Next.TheVariants.{Done, Got}
 use Rattle.cursor.proofs.Onward.{read, read_within, missed}
 use Rattle.lexical.specs.Lexical.{Chars, begins}
 use Rattle.lexical.specs.Lexed.{characters_from, characters_at, Reads, nothing, next}
+use Rattle.std.specs.Prelude.{Result, Ok, Err}
 
 -- any number that is enough gives the same characters
 characters_enough :
@@ -47,14 +46,14 @@ characters_code s at k w e =
     ap (λ x. on-Char x [] [] λ k w. k ∷ characters_from (length s) s (at + w)) e
     ∙ ap (λ ks. k ∷ ks) (characters_enough s (length s) (suc (length s)) (at + w) (omega arith) (omega arith))
 
-pub characters_got : (s : Bytes) (c d : Cursor) {k : ℕ} → next_char s c ≡ Got k d → characters_at s c.at ≡ k ∷ characters_at s d.at
+pub characters_got : (s : Bytes) (c d : Cursor) {k : ℕ} → next_char s c ≡ Ok (k, d) → characters_at s c.at ≡ k ∷ characters_at s d.at
 unfolding passed
 characters_got s c d {k} q =
     let r = read s c d k q in
     characters_code s c.at k r.width r.char
     ∙ ap (λ (x : Cursor). k ∷ characters_at s x.at) (sym r.behind)
 
-pub characters_done : (s : Bytes) (c d : Cursor) → next_char s c ≡ Done d → characters_at s c.at ≡ []
+pub characters_done : (s : Bytes) (c d : Cursor) → next_char s c ≡ Err d → characters_at s c.at ≡ []
 unfolding characters_at characters_from on-Char
 characters_done s c d q = go (missed s c d q).quiet (char_at s c.at) refl
   where
@@ -70,10 +69,10 @@ characters_done s c d q = go (missed s c d q).quiet (char_at s c.at) refl
 -- from cursor to cursor these characters are read
 pub data Walk (s : Bytes) : Cursor → Chars → Cursor → Type 0 where
   here : {c : Cursor} → Walk s c [] c
-  step : {c d e : Cursor} {k : ℕ} {ks : Chars} → next_char s c ≡ Got k d → Walk s d ks e → Walk s c (k ∷ ks) e
+  step : {c d e : Cursor} {k : ℕ} {ks : Chars} → next_char s c ≡ Ok (k, d) → Walk s d ks e → Walk s c (k ∷ ks) e
 
 module _ {s : Bytes} where
-  pub walk_one : {c d : Cursor} {k : ℕ} → next_char s c ≡ Got k d → Walk s c (k ∷ []) d
+  pub walk_one : {c d : Cursor} {k : ℕ} → next_char s c ≡ Ok (k, d) → Walk s c (k ∷ []) d
   walk_one q = step q here
 
   pub walk_on : {c d e : Cursor} {ks js : Chars} → Walk s c ks d → Walk s d js e → Walk s c (ks ++ js) e
@@ -97,7 +96,7 @@ module _ {s : Bytes} where
   reads_walk c e (next {k = k} {w = w} q r) =
       let d = passed c (c.at + w) (eqb k 10) in
       let x = reads_walk d (ap (λ n. n + w) e) r in
-      let g : next_char s c ≡ Got k d = ap (λ x. on-Char x (Done (passed c c.at false)) (Done (passed c c.at false)) λ k w. Got k (passed c (c.at + w) (eqb k 10))) (ap (char_at s) e ∙ q) in
+      let g : next_char s c ≡ Ok (k, d) = ap (λ x. on-Char x (Err (passed c c.at false)) (Err (passed c c.at false)) λ k w. Ok (k, passed c (c.at + w) (eqb k 10))) (ap (char_at s) e ∙ q) in
       (x.0, (step g x.1.0, x.1.1))
 
   -- how far a walk goes
@@ -111,14 +110,14 @@ module _ {s : Bytes} where
 
 -- what follows does not begin with a character of the class
 module _ (s : Bytes) (c d : Cursor) (p : ℕ → Bool) where
-  pub stops_done : next_char s c ≡ Done d → begins p (characters_at s c.at) ≡ false
+  pub stops_done : next_char s c ≡ Err d → begins p (characters_at s c.at) ≡ false
   stops_done q = ap (begins p) (characters_done s c d q)
 
-  pub stops_got : {k : ℕ} → next_char s c ≡ Got k d → p k ≡ false → begins p (characters_at s c.at) ≡ false
+  pub stops_got : {k : ℕ} → next_char s c ≡ Ok (k, d) → p k ≡ false → begins p (characters_at s c.at) ≡ false
   stops_got q e = ap (begins p) (characters_got s c d q) ∙ e
 
   -- .. and the other way: the character that is read is not in the class
-  pub stopped : {k : ℕ} → begins p (characters_at s c.at) ≡ false → next_char s c ≡ Got k d → p k ≡ false
+  pub stopped : {k : ℕ} → begins p (characters_at s c.at) ≡ false → next_char s c ≡ Ok (k, d) → p k ≡ false
   stopped h q = sym (ap (begins p) (characters_got s c d q)) ∙ h
 
 -- a walk in parts
@@ -126,7 +125,7 @@ pub record Past (s : Bytes) (c : Cursor) (ks : Chars) (k : ℕ) (js : Chars) (f 
   pub stop : Cursor
   pub behind : Cursor
   pub walked : Walk s c ks stop
-  pub got : next_char s stop ≡ Got k behind
+  pub got : next_char s stop ≡ Ok (k, behind)
   pub left : Walk s behind js f
 
 module _ {s : Bytes} where
@@ -146,13 +145,13 @@ module _ {s : Bytes} where
 
 -- where no character of a class follows: the end, or a character outside it
 pub stop_split :
-    (s : Bytes) (c : Cursor) (p : ℕ → Bool) (P : Next → Type 0)
+    (s : Bytes) (c : Cursor) (p : ℕ → Bool) (P : Result (ℕ × Cursor) Cursor → Type 0)
     → begins p (characters_at s c.at) ≡ false
-    → ((d : Cursor) → P (Done d))
-    → ((k : ℕ) (d : Cursor) → p k ≡ false → P (Got k d))
+    → ((d : Cursor) → P (Err d))
+    → ((k : ℕ) (d : Cursor) → p k ≡ false → P (Ok (k, d)))
     → P (next_char s c)
 stop_split s c p P b f g = go (next_char s c) refl
   where
-    go : (x : Next) → next_char s c ≡ x → P x
-    go (Done d) e = f d
-    go (Got k d) e = g k d (stopped s c d p b e)
+    go : (x : Result (ℕ × Cursor) Cursor) → next_char s c ≡ x → P x
+    go (Err d) e = f d
+    go (Ok (k, d)) e = g k d (stopped s c d p b e)

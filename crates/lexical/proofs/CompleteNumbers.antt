@@ -13,11 +13,8 @@ use Rattle.base.specs.Turns.{Turn, more, done, after, turns}
 use Rattle.space.specs.Space.{among, is_white_space}
 use Rattle.cursor.specs.Class.{in_span, can_start_identifier, digit_value, to_digit}
 use Rattle.cursor.specs.Cursor.{most, bump, next_char}
-use Rattle.cursor.specs.Elim.{on-Next}
 use Rattle.cursor.specs.Number.{dotted, digit_added, takes_dot, digits, digits_turn, read_digits}
 use Rattle.cursor.specs.declared.Cursor.{Cursor}
-use Rattle.cursor.specs.declared.Next.{Next}
-use Rattle.cursor.specs.declared.Next.TheVariants.{Done, Got}
 use Rattle.cursor.specs.declared.number.Digits.{Digits}
 use Rattle.cursor.specs.declared.number.Sum.{Sum}
 use Rattle.token_number.specs.Number.{is_bare_dot, finish_number, first_digit, read_unsigned, read_signed, read_number}
@@ -31,8 +28,8 @@ use Rattle.lexical.proofs.Characters.{Walk, here, step, walk_past, walk_short, s
 use Rattle.lexical.proofs.Letters.{apart, digit_no_sign, digit_no_pair, digit_no_space, digit_span}
 use Rattle.lexical.proofs.SoundNumbers.{digit_dot}
 use Rattle.lexical.proofs.CompleteWords.{Taken, long}
-use Rattle.std.specs.Prelude.{Some, None, Ok}
-use Rattle.base.specs.Option.{on_option}
+use Rattle.std.specs.Prelude.{Some, None, Ok, Result, Err}
+use Rattle.base.specs.Option.{on_option, on_result, on_result2}
 
 -- digits
 pub is_digit_lem : (k radix : ℕ) → ltb (digit_value k) radix ≡ true → to_digit k radix ≡ Some (digit_value k)
@@ -101,9 +98,9 @@ not_bare x {j} {js} d (one e r) =
     rw (added_digit x j js e, digits_dot y r ∙ z) (digits_places y z (digit_places x (digit_value j) d) r)
 
 -- a turn once the next character is known
-abbrev digits_next : Sum → Cursor → Next → Turn Digits Digits
+abbrev digits_next : Sum → Cursor → Result (ℕ × Cursor) Cursor → Turn Digits Digits
 digits_next x c z =
-    on-Next z (λ d. done (digits x c)) λ k d.
+    on_result2 z (λ d. done (digits x c)) λ k d.
     on_option (to_digit k 10)
     (pick (takes_dot x k) (more (digits (dotted x) d)) (done (digits x c)))
     λ v. more (digits (digit_added x v) d)
@@ -115,7 +112,7 @@ module _ (s : Bytes) where
       → Run is_digit true ks
       → m ≡ length ks + n
       → turns (digits_turn s) y m (digits x c) ≡ turns (digits_turn s) y n (digits (added_all x ks) d)
-  unfolding turns on-Next on_option added_all
+  unfolding turns on_result on_option added_all
   digit_run y m n x {c = c} here none f = let g : m ≡ n = omega arith in ap (λ m. turns (digits_turn s) y m (digits x c)) g
   digit_run y zero n x (step q w) (one e r) f = absurd (omega arith)
   digit_run y (suc m) n x (step q w) (one {k = k} e r) f =
@@ -123,10 +120,10 @@ module _ (s : Bytes) where
 
   dot_turn :
       (y : Digits) (n : ℕ) (x : Sum) (c : Cursor) {d : Cursor}
-      → next_char s c ≡ Got 46 d
+      → next_char s c ≡ Ok (46, d)
       → x.dot ≡ false
       → turns (digits_turn s) y (suc n) (digits x c) ≡ turns (digits_turn s) y n (digits (dotted x) d)
-  unfolding turns on-Next on_option to_digit digit_value takes_dot pick
+  unfolding turns on_result on_option to_digit digit_value takes_dot pick
   dot_turn y n x c q e = rw (q, e)
 
   -- behind a fraction only a digit goes on
@@ -135,15 +132,15 @@ module _ (s : Bytes) where
       → begins is_digit (characters_at s c.at) ≡ false
       → x.dot ≡ true
       → turns (digits_turn s) y (suc n) (digits x c) ≡ digits x c
-  unfolding turns on-Next on_option takes_dot pick
+  unfolding turns on_result on_option takes_dot pick
   fraction_stop y n x c b e = go (next_char s c) refl
     where
       go :
-          (z : Next)
+          (z : Result (ℕ × Cursor) Cursor)
           → next_char s c ≡ z
           → after (digits_next x c z) (turns (digits_turn s) y n) ≡ digits x c
-      go (Done d) q = refl
-      go (Got k d) q = rw (is_no_digit k 10 (stopped s c d is_digit b q), e)
+      go (Err d) q = refl
+      go (Ok (k, d)) q = rw (is_no_digit k 10 (stopped s c d is_digit b q), e)
 
   whole_stop :
       (y : Digits) (n : ℕ) (x : Sum) (c : Cursor)
@@ -151,15 +148,15 @@ module _ (s : Bytes) where
       → begins is_dot (characters_at s c.at) ≡ false
       → x.dot ≡ false
       → turns (digits_turn s) y (suc n) (digits x c) ≡ digits x c
-  unfolding turns on-Next on_option takes_dot pick
+  unfolding turns on_result on_option takes_dot pick
   whole_stop y n x c b f e = go (next_char s c) refl
     where
       go :
-          (z : Next)
+          (z : Result (ℕ × Cursor) Cursor)
           → next_char s c ≡ z
           → after (digits_next x c z) (turns (digits_turn s) y n) ≡ digits x c
-      go (Done d) q = refl
-      go (Got k d) q = rw (is_no_digit k 10 (stopped s c d is_digit b q), e, stopped s c d is_dot f q)
+      go (Err d) q = refl
+      go (Ok (k, d)) q = rw (is_no_digit k 10 (stopped s c d is_digit b q), e, stopped s c d is_dot f q)
 
   -- all digits and the dot behind a first character
   read_whole :
@@ -258,7 +255,7 @@ module _ (s : Bytes) where
 
   digit_taken :
       (c d : Cursor) (k : ℕ) {t : Token} {e : Cursor}
-      → next_char s c ≡ Got k d
+      → next_char s c ≡ Ok (k, d)
       → is_digit k ≡ true
       → read_unsigned s false k d ≡ Ok (t, e)
       → Taken s c t e
@@ -276,7 +273,7 @@ module _ (s : Bytes) where
       )
       r)
 
-  dot_taken : (c d : Cursor) {t : Token} {e : Cursor} → next_char s c ≡ Got 46 d → read_unsigned s false 46 d ≡ Ok (t, e) → Taken s c t e
+  dot_taken : (c d : Cursor) {t : Token} {e : Cursor} → next_char s c ≡ Ok (46, d) → read_unsigned s false 46 d ≡ Ok (t, e) → Taken s c t e
   unfolding is_white_space among get_two_char_simple_token first_pair is_pair get_one_char_simple_token first_letter read_long can_start_identifier starts_number read_number pick
   dot_taken c d q r = long s c d 46 q refl refl (λ j. refl) refl r
 
@@ -290,14 +287,14 @@ module _ (s : Bytes) where
   number_taken (fraction r b) (step {c = c} {d = d} q w) = dot_taken c d q (unsigned false (fraction r b) w)
 
   signed : (minus : Bool) {d e : Cursor} {ks : Chars} → IsUnsigned ks (characters_at s e.at) → Walk s d ks e → read_signed s minus d ≡ Ok (Number (number_of minus ks), e)
-  unfolding read_signed on-Next
+  unfolding read_signed on_result
   signed minus (whole r b f) (step q w) = rw q (unsigned minus (whole r b f) w)
   signed minus (mixed r r' b) (step q w) = rw q (unsigned minus (mixed r r' b) w)
   signed minus (fraction r b) (step q w) = rw q (unsigned minus (fraction r b) w)
 
   pub plus_taken :
       (c d : Cursor) {e : Cursor} {ks : Chars}
-      → next_char s c ≡ Got 43 d
+      → next_char s c ≡ Ok (43, d)
       → IsUnsigned ks (characters_at s e.at)
       → Walk s d ks e
       → Taken s c (Number (number_of false ks)) e
@@ -306,12 +303,12 @@ module _ (s : Bytes) where
 
   pub minus_taken :
       (c d : Cursor) {e f : Cursor} {k : ℕ} {ks : Chars}
-      → next_char s c ≡ Got 45 d
-      → next_char s d ≡ Got k f
+      → next_char s c ≡ Ok (45, d)
+      → next_char s d ≡ Ok (k, f)
       → is_digit k ≡ true
       → IsUnsigned (k ∷ ks) (characters_at s e.at)
       → Walk s f ks e
       → Taken s c (Number (number_of true (k ∷ ks))) e
-  unfolding is_white_space among get_two_char_simple_token first_pair is_pair get_one_char_simple_token first_letter read_long can_start_identifier starts_number read_other read_after_minus read_number on-Next pick
+  unfolding is_white_space among get_two_char_simple_token first_pair is_pair get_one_char_simple_token first_letter read_long can_start_identifier starts_number read_other read_after_minus read_number on_result pick
   minus_taken c d {k = k} q p h u w =
       long s c d 45 q refl refl (λ j. refl) refl (rw (p, digit_span k ∙ h) (signed true u (step p w)))

@@ -15,10 +15,7 @@ use Rattle.base.specs.Turns.{Turn, more, done, after, turns}
 use Rattle.space.specs.Space.{among, is_white_space}
 use Rattle.cursor.specs.Class.{can_be_in_at_directive, can_start_identifier, can_continue_identifier}
 use Rattle.cursor.specs.Cursor.{next_char}
-use Rattle.cursor.specs.Elim.{on-Next}
 use Rattle.cursor.specs.declared.Cursor.{Cursor}
-use Rattle.cursor.specs.declared.Next.{Next}
-use Rattle.cursor.specs.declared.Next.TheVariants.{Done, Got}
 use Rattle.token.specs.Read.{
   range,
   skip_one,
@@ -49,13 +46,13 @@ use Rattle.lexical.specs.Lexed.{characters_at}
 use Rattle.lexical.proofs.Characters.{Walk, here, step, walk_split, walk_past, walk_short, stops_got, stop_split}
 use Rattle.lexical.proofs.Letters.{apart, starts_no_sign, starts_no_pair, starts_no_space, digit_span, directive_no_space, word_bytes}
 use Rattle.std.specs.Prelude.{Option, Some, None, Result, Ok, Err}
-use Rattle.base.specs.Option.{on_option, on_option2, on_result}
+use Rattle.base.specs.Option.{on_option, on_option2, on_result, on_result2}
 
 -- a token is read at c, up to e, and no blank begins there
 pub record Taken (s : Bytes) (c : Cursor) (t : Token) (e : Cursor) : Type 0 where
   pub first : ℕ
   pub behind : Cursor
-  pub got : next_char s c ≡ Got first behind
+  pub got : next_char s c ≡ Ok (first, behind)
   pub no_space : is_white_space first ≡ false
   pub no_slash : eqb first 47 ≡ false
   pub ready : read_token s c.at first behind ≡ Ok (t, e)
@@ -103,8 +100,8 @@ unpaired None e = refl
 unpaired (Some t) e = clash refl e
 
 -- a turn of a run once the next character is known
-abbrev run_next : (ℕ → Bool) → Cursor → Next → Turn Cursor Cursor
-run_next p c y = on-Next y (λ d. done c) λ k d. pick (p k) (more d) (done c)
+abbrev run_next : (ℕ → Bool) → Cursor → Result (ℕ × Cursor) Cursor → Turn Cursor Cursor
+run_next p c y = on_result2 y (λ d. done c) λ k d. pick (p k) (more d) (done c)
 
 module _ (s : Bytes) where
   -- a run of a class, up to where it stops
@@ -115,7 +112,7 @@ module _ (s : Bytes) where
       → begins p (characters_at s d.at) ≡ false
       → length ks < n
       → turns (λ (c : Cursor). run_next p c (next_char s c)) x n c ≡ d
-  unfolding turns on-Next pick
+  unfolding turns on_result pick
   run_turns p x zero w r b l = absurd (omega arith)
   run_turns p x (suc n) {c = c} here none b l =
       stop_split s c p
@@ -138,10 +135,10 @@ module _ (s : Bytes) where
       (x : Result (Range × Cursor) LexerError) (from n : ℕ) {c d e : Cursor} {ks : Chars}
       → Walk s c ks d
       → Run is_quote false ks
-      → next_char s d ≡ Got 34 e
+      → next_char s d ≡ Ok (34, e)
       → length ks < n
       → turns (quoted_turn s from) x n c ≡ Ok (range from d.at, e)
-  unfolding turns on-Next pick
+  unfolding turns on_result pick
   quoted_turns x from zero w r q l = absurd (omega arith)
   quoted_turns x from (suc n) here none q l = rw q
   quoted_turns x from (suc n) (step p w) (one e r) q l = rw (p, e) (quoted_turns x from n w r q (omega arith))
@@ -150,23 +147,23 @@ module _ (s : Bytes) where
       {c d e : Cursor} {ks : Chars}
       → Walk s c ks d
       → Run is_quote false ks
-      → next_char s d ≡ Got 34 e
+      → next_char s d ≡ Ok (34, e)
       → read_quoted s c ≡ Ok (range c.at d.at, e)
   unfolding read_quoted
   quoted {c} {ks = ks} w r q = let l = walk_short ks w in quoted_turns (Err (lexer_error open_string c)) c.at (suc (length s)) w r q (omega arith)
 
   -- a token that is no sign is read by readLong
   no_pair : (a : ℕ) (d : Cursor) → ((j : ℕ) → get_two_char_simple_token a j ≡ None) → read_pair s a d ≡ None
-  unfolding read_pair on-Next on_option
+  unfolding read_pair on_result on_option
   no_pair a d h = go (next_char s d)
     where
-      go : (x : Next) → ◌≡◌ {A = Option (Token × Cursor)} (on-Next x (λ d. None) λ j e. on_option (get_two_char_simple_token a j) None λ t. Some (t, e)) None
-      go (Done e) = refl
-      go (Got j e) = rw (h j)
+      go : (x : Result (ℕ × Cursor) Cursor) → ◌≡◌ {A = Option (Token × Cursor)} (on_result2 x (λ d. None) λ j e. on_option (get_two_char_simple_token a j) None λ t. Some (t, e)) None
+      go (Err e) = refl
+      go (Ok (j, e)) = rw (h j)
 
   pub long :
       (c d : Cursor) (k : ℕ) {t : Token} {e : Cursor}
-      → next_char s c ≡ Got k d
+      → next_char s c ≡ Ok (k, d)
       → is_white_space k ≡ false
       → eqb k 47 ≡ false
       → ((j : ℕ) → get_two_char_simple_token k j ≡ None)
@@ -178,13 +175,13 @@ module _ (s : Bytes) where
       record { first = k; behind = d; got = q; no_space = f; no_slash = g; ready = rw (no_pair k d p, o) r }
 
   -- * and names
-  pub star_taken : (c d : Cursor) → next_char s c ≡ Got 42 d → Taken s c (Identifier (range c.at d.at)) d
+  pub star_taken : (c d : Cursor) → next_char s c ≡ Ok (42, d) → Taken s c (Identifier (range c.at d.at)) d
   unfolding is_white_space among get_two_char_simple_token first_pair is_pair get_one_char_simple_token first_letter read_long pick
   star_taken c d q = long c d 42 q refl refl (λ j. refl) refl refl
 
   pub name_taken :
       (c d : Cursor) {e : Cursor} {k : ℕ} {ks : Chars}
-      → next_char s c ≡ Got k d
+      → next_char s c ≡ Ok (k, d)
       → can_start_identifier k ≡ true
       → Walk s d ks e
       → Run can_continue_identifier true ks
@@ -197,25 +194,25 @@ module _ (s : Bytes) where
 
   pub hyphen_taken :
       (c d e : Cursor) {g : Cursor} {k : ℕ} {ks : Chars}
-      → next_char s c ≡ Got 45 d
-      → next_char s d ≡ Got k e
+      → next_char s c ≡ Ok (45, d)
+      → next_char s d ≡ Ok (k, e)
       → can_continue_identifier k ≡ true
       → is_digit k ≡ false
       → Walk s e ks g
       → Run can_continue_identifier true ks
       → begins can_continue_identifier (characters_at s g.at) ≡ false
       → Taken s c (Identifier (range c.at g.at)) g
-  unfolding is_white_space among get_two_char_simple_token first_pair is_pair get_one_char_simple_token first_letter read_long starts_number read_other read_after_minus read_identifier can_start_identifier on-Next pick
+  unfolding is_white_space among get_two_char_simple_token first_pair is_pair get_one_char_simple_token first_letter read_long starts_number read_other read_after_minus read_identifier can_start_identifier on_result pick
   hyphen_taken c d e {k = k} q p h n w r b =
       long c d 45 q refl refl (λ j. refl) refl
       (rw (p, digit_span k ∙ n, h, identifier_end_lem (step p w) (one h r) b))
 
   pub string_taken :
       (c d e g : Cursor) {ks : Chars}
-      → next_char s c ≡ Got 34 d
+      → next_char s c ≡ Ok (34, d)
       → Walk s d ks e
       → Run is_quote false ks
-      → next_char s e ≡ Got 34 g
+      → next_char s e ≡ Ok (34, g)
       → Taken s c (Text (range d.at e.at)) g
   unfolding is_white_space among get_two_char_simple_token first_pair is_pair get_one_char_simple_token first_letter read_long read_string can_start_identifier on_result pick
   string_taken c d e g q w r p = long c d 34 q refl refl (λ j. refl) refl (rw (quoted w r p))
@@ -223,11 +220,11 @@ module _ (s : Bytes) where
   -- signs
   pub pair_taken :
       (c d e : Cursor) (a b : ℕ) {t : Token}
-      → next_char s c ≡ Got a d
-      → next_char s d ≡ Got b e
+      → next_char s c ≡ Ok (a, d)
+      → next_char s d ≡ Ok (b, e)
       → get_two_char_simple_token a b ≡ Some t
       → Taken s c t e
-  unfolding read_token read_pair on-Next on_option pick is_white_space among
+  unfolding read_token read_pair on_result on_option pick is_white_space among
   pair_taken c d e a b q p h =
       record {
         first = a;
@@ -240,11 +237,11 @@ module _ (s : Bytes) where
 
   pub sign_taken :
       (c d : Cursor) (a : ℕ) {t : Token}
-      → next_char s c ≡ Got a d
+      → next_char s c ≡ Ok (a, d)
       → get_one_char_simple_token a ≡ Some t
       → begins (pairs_with a) (characters_at s d.at) ≡ false
       → Taken s c t d
-  unfolding read_token read_pair read_single on-Next on_option pick is_white_space among
+  unfolding read_token read_pair read_single on_result on_option pick is_white_space among
   sign_taken c d a {t = t} q h b =
       record {
         first = a;
@@ -254,7 +251,7 @@ module _ (s : Bytes) where
         no_slash = sign_first (λ k. eqb k 47) a h refl;
         ready =
             stop_split s d (pairs_with a)
-            (λ y. ◌≡◌ {A = Reading} (on_option2 (on-Next y (λ e. None) λ j e. on_option (get_two_char_simple_token a j) None λ t. Some (t, e)) (read_single s c.at a d) λ t e. Ok (t, e)) (Ok (t, d)))
+            (λ y. ◌≡◌ {A = Reading} (on_option2 (on_result2 y (λ e. None) λ j e. on_option (get_two_char_simple_token a j) None λ t. Some (t, e)) (read_single s c.at a d) λ t e. Ok (t, e)) (Ok (t, d)))
             b
             (λ e. rw h)
             (λ j e n. rw (unpaired (get_two_char_simple_token a j) n, h));
@@ -276,12 +273,12 @@ module _ (s : Bytes) where
       → Run can_be_in_at_directive true (k ∷ ks)
       → begins can_be_in_at_directive (characters_at s d.at) ≡ false
       → read_at_directive s c ≡ read_directive s c.at d
-  unfolding read_at_directive on-Next pick
+  unfolding read_at_directive on_result pick
   directive (step q w) (one h r) b = rw (q, h, directive_end w r b)
 
   at_taken :
       (c d : Cursor) {t : Token} {e : Cursor}
-      → next_char s c ≡ Got 64 d
+      → next_char s c ≡ Ok (64, d)
       → read_at_directive s d ≡ Ok (t, e)
       → Taken s c t e
   unfolding is_white_space among get_two_char_simple_token first_pair is_pair get_one_char_simple_token first_letter read_long pick
@@ -289,7 +286,7 @@ module _ (s : Bytes) where
 
   pub reference_taken :
       (c d : Cursor) {e : Cursor} {k : ℕ} {ks : Chars}
-      → next_char s c ≡ Got 64 d
+      → next_char s c ≡ Ok (64, d)
       → Walk s d (k ∷ ks) e
       → Run can_be_in_at_directive true (k ∷ ks)
       → begins can_be_in_at_directive (characters_at s e.at) ≡ false
@@ -300,17 +297,17 @@ module _ (s : Bytes) where
       at_taken c d q (directive w r b ∙ rw (ap (λ x. same x (ascii "import")) (word_bytes w r) ∙ n))
 
   -- a blank or a bracket that is passed over
-  gap_skipped : (bracket : ℕ) (c d : Cursor) {k : ℕ} → next_char s c ≡ Got k d → is_gap bracket k ≡ true → skip_one s bracket c ≡ d
-  unfolding skip_one on-Next pick
+  gap_skipped : (bracket : ℕ) (c d : Cursor) {k : ℕ} → next_char s c ≡ Ok (k, d) → is_gap bracket k ≡ true → skip_one s bracket c ≡ d
+  unfolding skip_one on_result pick
   gap_skipped bracket c d {k} q h =
       by-test (is_white_space k) (λ t. rw (q, t)) λ t.
       by-test (eqb k bracket) (λ u. rw (q, t, u)) (λ u. clash h (rw (t, u)))
 
   gap_left : (bracket : ℕ) (c : Cursor) → begins (is_gap bracket) (characters_at s c.at) ≡ false → skip_one s bracket c ≡ c
-  unfolding skip_one on-Next pick
+  unfolding skip_one on_result pick
   gap_left bracket c b =
       stop_split s c (is_gap bracket)
-      (λ y. on-Next y (λ d. c) (λ k d. pick (is_white_space k) d (pick (eqb k bracket) d c)) ≡ c)
+      (λ y. on_result2 y (λ d. c) (λ k d. pick (is_white_space k) d (pick (eqb k bracket) d c)) ≡ c)
       b
       (λ d. refl)
       (λ k d h.
@@ -331,11 +328,11 @@ module _ (s : Bytes) where
       → Walk s c (34 ∷ []) d
       → Walk s d ks e
       → Run is_quote false ks
-      → next_char s e ≡ Got 34 f
+      → next_char s e ≡ Ok (34, f)
       → IsGap 41 after (characters_at s g.at)
       → Walk s f after g
       → read_import s c ≡ Ok (Import (range d.at e.at), g)
-  unfolding read_import on-Next on_result pick
+  unfolding read_import on_result pick
   import_read e f (step q here) w r p a v = rw (q, quoted w r p, gap_passed 41 a v)
 
   gap_no_word : (k : ℕ) → is_gap 40 k ≡ true → can_be_in_at_directive k ≡ false
@@ -356,7 +353,7 @@ module _ (s : Bytes) where
       → Walk s c (ascii "import") d
       → IsGap 40 before (34 ∷ [])
       → Walk s d before f
-      → next_char s f ≡ Got 34 g
+      → next_char s f ≡ Ok (34, g)
       → read_at_directive s c ≡ read_import s f
   unfolding can_be_in_at_directive is_white_space among pick
   import_opened f g w (no_gap b) here p =
@@ -368,7 +365,7 @@ module _ (s : Bytes) where
 
   pub import_taken :
       (c d : Cursor) {f g h : Cursor} (before : Chars) {ks after : Chars}
-      → next_char s c ≡ Got 64 d
+      → next_char s c ≡ Ok (64, d)
       → Walk s d (ascii "import" ++ (before ++ (34 ∷ []))) f
       → IsGap 40 before (34 ∷ [])
       → Walk s f ks g

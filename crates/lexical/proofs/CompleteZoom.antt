@@ -14,9 +14,7 @@ use Rattle.space.specs.Space.{among, is_white_space}
 use Rattle.color.specs.Named.{rgb}
 use Rattle.cursor.specs.Class.{can_start_identifier, digit_value, to_digit}
 use Rattle.cursor.specs.Cursor.{bump, next_char}
-use Rattle.cursor.specs.Elim.{on-Next}
 use Rattle.cursor.specs.declared.Cursor.{Cursor}
-use Rattle.cursor.specs.declared.Next.TheVariants.{Got}
 use Rattle.token.specs.Read.{starts_number, read_other, read_long}
 use Rattle.token_kind.specs.Signs.{is_pair, first_pair, first_letter, get_two_char_simple_token, get_one_char_simple_token}
 use Rattle.token_zoom.specs.Zoom.{
@@ -62,7 +60,7 @@ use Rattle.lexical.proofs.SoundZoom.{three_digits_lem}
 use Rattle.lexical.proofs.CompleteWords.{Taken, long}
 use Rattle.lexical.proofs.CompleteNumbers.{is_digit_lem, is_no_digit}
 use Rattle.std.specs.Prelude.{Option, Some, None, Ok}
-use Rattle.base.specs.Option.{on_option}
+use Rattle.base.specs.Option.{on_option, on_result, on_result2}
 
 below : (k : ℕ) → is_hex_digit k ≡ true → digit_value k < 16
 below k h = ltb-true (digit_value k) 16 h
@@ -71,17 +69,17 @@ module _ (s : Bytes) where
   -- one digit
   one_read :
       (radix : ℕ) (c d : Cursor) {k : ℕ}
-      → next_char s c ≡ Got k d
+      → next_char s c ≡ Ok (k, d)
       → ltb (digit_value k) radix ≡ true
       → read_digit s radix c ≡ Some (digit_value k, d)
-  unfolding read_digit on-Next on_option
+  unfolding read_digit on_result on_option
   one_read radix c d {k} q e = rw (q, is_digit_lem k radix e)
 
   none_read : (radix : ℕ) (c : Cursor) → begins (λ k. ltb (digit_value k) radix) (characters_at s c.at) ≡ false → read_digit s radix c ≡ None
-  unfolding read_digit on-Next on_option
+  unfolding read_digit on_result on_option
   none_read radix c b =
       stop_split s c (λ k. ltb (digit_value k) radix)
-      (λ y. ◌≡◌ {A = Option (ℕ × Cursor)} (on-Next y (λ d. None) (λ k d. on_option (to_digit k radix) None λ v. Some (v, d))) None)
+      (λ y. ◌≡◌ {A = Option (ℕ × Cursor)} (on_result2 y (λ d. None) (λ k d. on_option (to_digit k radix) None λ v. Some (v, d))) None)
       b
       (λ d. refl)
       (λ k d e. rw (is_no_digit k radix e))
@@ -100,15 +98,15 @@ module _ (s : Bytes) where
   unfolding read_zoom_level on_option
   no_level c b = rw (none_read 10 c b)
 
-  a_hyphen : (c d : Cursor) → next_char s c ≡ Got 45 d → read_hyphen s c ≡ (true, d)
-  unfolding read_hyphen on-Next pick
+  a_hyphen : (c d : Cursor) → next_char s c ≡ Ok (45, d) → read_hyphen s c ≡ (true, d)
+  unfolding read_hyphen on_result pick
   a_hyphen c d q = rw q
 
   no_hyphen : (c : Cursor) → begins is_hyphen (characters_at s c.at) ≡ false → read_hyphen s c ≡ (false, c)
-  unfolding read_hyphen on-Next pick
+  unfolding read_hyphen on_result pick
   no_hyphen c b =
       stop_split s c is_hyphen
-      (λ y. ◌≡◌ {A = Bool × Cursor} (on-Next y (λ d. (false, c)) (λ k d. pick (eqb k 45) (true, d) (false, c))) (false, c))
+      (λ y. ◌≡◌ {A = Bool × Cursor} (on_result2 y (λ d. (false, c)) (λ k d. pick (eqb k 45) (true, d) (false, c))) (false, c))
       b
       (λ d. refl)
       (λ k d e. rw e)
@@ -127,7 +125,7 @@ module _ (s : Bytes) where
       (a : Chars) {c : Cursor} (d : Cursor) {f e : Cursor} {m : ℕ}
       → IsLevel a (45 ∷ characters_at s e.at) m
       → Walk s c a d
-      → next_char s d ≡ Got 45 f
+      → next_char s d ≡ Ok (45, f)
       → Walk s f [] e
       → begins is_digit (characters_at s e.at) ≡ false
       → read_levels s c ≡ Ok (ZoomRange (Some m) None, e)
@@ -153,19 +151,19 @@ module _ (s : Bytes) where
 
   pub zoom_taken :
       (c d f : Cursor) {e : Cursor} {ks : Chars} {min max : Option ℕ}
-      → next_char s c ≡ Got 124 d
-      → next_char s d ≡ Got 122 f
+      → next_char s c ≡ Ok (124, d)
+      → next_char s d ≡ Ok (122, f)
       → IsZooms ks (characters_at s e.at) min max
       → Walk s f ks e
       → Taken s c (ZoomRange min max) e
-  unfolding is_white_space among get_two_char_simple_token first_pair is_pair get_one_char_simple_token first_letter read_long can_start_identifier starts_number read_other read_zoom_range on-Next pick
+  unfolding is_white_space among get_two_char_simple_token first_pair is_pair get_one_char_simple_token first_letter read_long can_start_identifier starts_number read_other read_zoom_range on_result pick
   zoom_taken c d f q p z w = long s c d 124 q refl refl (λ j. refl) refl (rw p (levels z w))
 
   -- colours
   hex_turn_lem :
       (y : Hex) (m n i v : ℕ) (c d : Cursor) {k : ℕ}
       → m ≡ suc n
-      → next_char s c ≡ Got k d
+      → next_char s c ≡ Ok (k, d)
       → is_hex_digit k ≡ true
       → turns (hex_turn s) y m (hex i v c) ≡ turns (hex_turn s) y n (hex (bump i) (hex_added v (digit_value k)) d)
   unfolding turns on_option
@@ -197,7 +195,7 @@ module _ (s : Bytes) where
 
   pub three_taken :
       (c d : Cursor) {e : Cursor} {k1 k2 k3 : ℕ}
-      → next_char s c ≡ Got 35 d
+      → next_char s c ≡ Ok (35, d)
       → Walk s d (k1 ∷ k2 ∷ k3 ∷ []) e
       → Run is_hex_digit true (k1 ∷ k2 ∷ k3 ∷ [])
       → begins is_hex_digit (characters_at s e.at) ≡ false
@@ -235,7 +233,7 @@ module _ (s : Bytes) where
 
   pub six_taken :
       (c d : Cursor) {e : Cursor} {k1 k2 k3 k4 k5 k6 : ℕ}
-      → next_char s c ≡ Got 35 d
+      → next_char s c ≡ Ok (35, d)
       → Walk s d (k1 ∷ k2 ∷ k3 ∷ k4 ∷ k5 ∷ k6 ∷ []) e
       → Run is_hex_digit true (k1 ∷ k2 ∷ k3 ∷ k4 ∷ k5 ∷ k6 ∷ [])
       → begins is_hex_digit (characters_at s e.at) ≡ false

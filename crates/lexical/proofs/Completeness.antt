@@ -14,7 +14,7 @@ use Rattle.space.specs.Space.{among, is_white_space}
 use Rattle.utf8.specs.Utf8.{char_at}
 use Rattle.utf8.specs.declared.Char.TheVariants.{Code}
 use Rattle.cursor.specs.Cursor.{cursor, passed, next_char}
-use Rattle.cursor.specs.Elim.{on-Next, on-Significant}
+use Rattle.cursor.specs.Elim.{on-Significant}
 use Rattle.cursor.specs.Blank.{
   line_turn,
   skip_line_comment,
@@ -25,8 +25,6 @@ use Rattle.cursor.specs.Blank.{
   next_significant_char,
 }
 use Rattle.cursor.specs.declared.Cursor.{Cursor}
-use Rattle.cursor.specs.declared.Next.{Next}
-use Rattle.cursor.specs.declared.Next.TheVariants.{Done, Got}
 use Rattle.cursor.specs.declared.Significant.{Significant}
 use Rattle.cursor.specs.declared.Significant.TheVariants.{Ended, Found}
 use Rattle.cursor.proofs.Onward.{read, missed}
@@ -92,7 +90,7 @@ use Rattle.lexical.proofs.CompleteWords.{
 use Rattle.lexical.proofs.CompleteNumbers.{number_taken, plus_taken, minus_taken}
 use Rattle.lexical.proofs.CompleteZoom.{zoom_taken, three_taken, six_taken}
 use Rattle.base.specs.Option.{on_option, on_result}
-use Rattle.std.specs.Prelude.{Some, Result, Ok}
+use Rattle.std.specs.Prelude.{Some, Result, Ok, Err}
 use Rattle.token.specs.declared.Step.{Step}
 use Rattle.token_kind.specs.declared.LexerError.{LexerError}
 
@@ -111,10 +109,10 @@ module _ (s : Bytes) where
       (x : Cursor) (n : ℕ) {c d e : Cursor} {xs : Chars}
       → Walk s c xs d
       → Run is_newline false xs
-      → next_char s d ≡ Got 10 e
+      → next_char s d ≡ Ok (10, e)
       → length xs < n
       → turns (line_turn s) x n c ≡ e
-  unfolding turns on-Next pick
+  unfolding turns on_result pick
   line_turns x zero w r q l = absurd (omega arith)
   line_turns x (suc n) here none q l = rw q
   line_turns x (suc n) (step p w) (one e r) q l = rw (p, e) (line_turns x n w r q (omega arith))
@@ -123,10 +121,10 @@ module _ (s : Bytes) where
       (x : Cursor) (n : ℕ) {c d e : Cursor} {xs : Chars}
       → Walk s c xs d
       → Run is_newline false xs
-      → next_char s d ≡ Done e
+      → next_char s d ≡ Err e
       → length xs < n
       → turns (line_turn s) x n c ≡ e
-  unfolding turns on-Next pick
+  unfolding turns on_result pick
   last_turns x zero w r q l = absurd (omega arith)
   last_turns x (suc n) here none q l = rw q
   last_turns x (suc n) (step p w) (one e r) q l = rw (p, e) (last_turns x n w r q (omega arith))
@@ -137,7 +135,7 @@ module _ (s : Bytes) where
       → IsBlock xs
       → length xs < n
       → turns (block_turn s) x n c ≡ Ok d
-  unfolding turns on-Next pick
+  unfolding turns on_result pick
   block_turns x zero w r l = absurd (omega arith)
   block_turns x (suc n) (step p (step q here)) close l = rw (p, q)
   block_turns x (suc n) (step p (step q w)) (star e r) l = rw (p, q, e) (block_turns x n (step q w) r (omega arith))
@@ -146,60 +144,60 @@ module _ (s : Bytes) where
 
   line_comment :
       (b : Cursor) {c d e : Cursor} {xs : Chars}
-      → next_char s b ≡ Got 47 c
+      → next_char s b ≡ Ok (47, c)
       → Walk s c xs d
       → Run is_newline false xs
-      → next_char s d ≡ Got 10 e
+      → next_char s d ≡ Ok (10, e)
       → try_skip_comment s b ≡ Ok (Some e)
-  unfolding try_skip_comment skip_line_comment on-Next pick
+  unfolding try_skip_comment skip_line_comment on_result pick
   line_comment b {xs = xs} p w r q = let l = walk_short xs w in rw (p, line_turns _ (suc (length s)) w r q (omega arith))
 
   last_comment :
       (b : Cursor) {c d e : Cursor} {xs : Chars}
-      → next_char s b ≡ Got 47 c
+      → next_char s b ≡ Ok (47, c)
       → Walk s c xs d
       → Run is_newline false xs
-      → next_char s d ≡ Done e
+      → next_char s d ≡ Err e
       → try_skip_comment s b ≡ Ok (Some e)
-  unfolding try_skip_comment skip_line_comment on-Next pick
+  unfolding try_skip_comment skip_line_comment on_result pick
   last_comment b {xs = xs} p w r q = let l = walk_short xs w in rw (p, last_turns _ (suc (length s)) w r q (omega arith))
 
   block_comment :
       (b : Cursor) {c d : Cursor} {xs : Chars}
-      → next_char s b ≡ Got 42 c
+      → next_char s b ≡ Ok (42, c)
       → Walk s c xs d
       → IsBlock xs
       → try_skip_comment s b ≡ Ok (Some d)
-  unfolding try_skip_comment skip_block_comment on-Next on_result pick
+  unfolding try_skip_comment skip_block_comment on_result pick
   block_comment b {xs = xs} p w r = let l = walk_short xs w in rw (p, block_turns _ (suc (length s)) w r (omega arith))
 
   -- blanks, and what stands behind them
   turn_space :
       (x : Result Significant Cursor) (n : ℕ) (c : Cursor) {d : Cursor} {k : ℕ}
-      → next_char s c ≡ Got k d
+      → next_char s c ≡ Ok (k, d)
       → is_white_space k ≡ true
       → turns (significant_turn s) x (suc n) c ≡ turns (significant_turn s) x n d
-  unfolding turns on-Next pick
+  unfolding turns on_result pick
   turn_space x n c q e = rw (q, e)
 
   turn_comment :
       (x : Result Significant Cursor) (n : ℕ) (c d : Cursor) {e : Cursor}
-      → next_char s c ≡ Got 47 d
+      → next_char s c ≡ Ok (47, d)
       → try_skip_comment s d ≡ Ok (Some e)
       → turns (significant_turn s) x (suc n) c ≡ turns (significant_turn s) x n e
-  unfolding turns on-Next on_option on_result pick is_white_space among
+  unfolding turns on_option on_result pick is_white_space among
   turn_comment x n c d q e = rw (q, e)
 
   found :
       (x : Result Significant Cursor) (n : ℕ) {c p d : Cursor} {k : ℕ} {ks rest : Chars}
       → IsBlank ks (k ∷ rest)
       → Walk s c ks p
-      → next_char s p ≡ Got k d
+      → next_char s p ≡ Ok (k, d)
       → is_white_space k ≡ false
       → eqb k 47 ≡ false
       → length ks < n
       → turns (significant_turn s) x n c ≡ Ok (Found p.at k d)
-  unfolding turns on-Next pick
+  unfolding turns on_result pick
   found x zero b w q f g l = absurd (omega arith)
   found x (suc n) nothing here q f g l = rw (q, f, g)
   found x (suc n) (space e b) (step {c = c} p w) q f g l = turn_space x n c p e ∙ found x n b w q f g (omega arith)
@@ -213,13 +211,13 @@ module _ (s : Bytes) where
       turn_comment x n c d p (block_comment d p' v.1.0 r) ∙ found x n b v.1.1 q f g (omega arith)
 
   -- the end is read again where it was read
-  done_again : (c d : Cursor) → next_char s c ≡ Done d → (e : Cursor) × (next_char s d ≡ Done e)
+  done_again : (c d : Cursor) → next_char s c ≡ Err d → (e : Cursor) × (next_char s d ≡ Err e)
   unfolding passed
   done_again c d q = go (next_char s d) refl
     where
-      go : (x : Next) → next_char s d ≡ x → (e : Cursor) × (next_char s d ≡ Done e)
-      go (Done e) m = (e, m)
-      go (Got k e) m =
+      go : (x : Result (ℕ × Cursor) Cursor) → next_char s d ≡ x → (e : Cursor) × (next_char s d ≡ Err e)
+      go (Err e) m = (e, m)
+      go (Ok (k, e)) m =
           let r = read s d e k m in
           let h = missed s c d q in
           absurd (h.quiet k r.width (subst (λ (x : Cursor). char_at s x.at ≡ Code k r.width) h.behind r.char))
@@ -228,10 +226,10 @@ module _ (s : Bytes) where
       (x : Result Significant Cursor) (n : ℕ) {c p e : Cursor} {ks : Chars}
       → IsBlank ks []
       → Walk s c ks p
-      → next_char s p ≡ Done e
+      → next_char s p ≡ Err e
       → length ks < n
       → (d : Cursor) × (turns (significant_turn s) x n c ≡ Ok (Ended d))
-  unfolding turns on-Next pick
+  unfolding turns on_result pick
   ended x zero b w q l = absurd (omega arith)
   ended x (suc n) {e = e} nothing here q l = (e, rw q)
   ended x (suc n) (space e b) (step {c = c} p w) q l =
@@ -257,22 +255,22 @@ module _ (s : Bytes) where
     last : Cursor
     over : Cursor
     walked : Walk s c ks last
-    ends : next_char s last ≡ Done over
+    ends : next_char s last ≡ Err over
 
   all : (ks : Chars) (c : Cursor) → characters_at s c.at ≡ ks → All c ks
   all [] c e = go (next_char s c) refl
     where
-      go : (x : Next) → next_char s c ≡ x → All c []
-      go (Done d) q = record { last = c; over = d; walked = here; ends = q }
-      go (Got k d) q = absurd (nil_cons (sym e ∙ characters_got s c d q))
+      go : (x : Result (ℕ × Cursor) Cursor) → next_char s c ≡ x → All c []
+      go (Err d) q = record { last = c; over = d; walked = here; ends = q }
+      go (Ok (k, d)) q = absurd (nil_cons (sym e ∙ characters_got s c d q))
   all (k ∷ ks) c e = go (λ d. all ks d) (next_char s c) refl
     where
-      go : ((d : Cursor) → characters_at s d.at ≡ ks → All d ks) → (x : Next) → next_char s c ≡ x → All c (k ∷ ks)
-      go h (Done d) q = absurd (nil_cons (sym (characters_done s c d q) ∙ e))
-      go h (Got j d) q =
+      go : ((d : Cursor) → characters_at s d.at ≡ ks → All d ks) → (x : Result (ℕ × Cursor) Cursor) → next_char s c ≡ x → All c (k ∷ ks)
+      go h (Err d) q = absurd (nil_cons (sym (characters_done s c d q) ∙ e))
+      go h (Ok (j, d)) q =
           let m = sym (characters_got s c d q) ∙ e in
           let r = h d (cons_tail m) in
-          let q' = subst (λ j. next_char s c ≡ Got j d) (cons_head m) q in
+          let q' = subst (λ j. next_char s c ≡ Ok (j, d)) (cons_head m) q in
           record { last = r.last; over = r.over; walked = step q' r.walked; ends = r.ends }
 
 pub complete_end : CompleteEnd

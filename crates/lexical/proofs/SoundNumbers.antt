@@ -7,7 +7,7 @@ use mathlib.Core.List.{[], ◌∷◌, ◌++◌}
 use lib.Dec.{eqb}
 use lib.ListN.{length}
 use borrow.Author.Tests.{eqb-true}
-use Rattle.base.proofs.Options.{split_option}
+use Rattle.base.proofs.Options.{split_option, split_result2}
 use Rattle.base.specs.Bytes.{Bytes}
 use Rattle.base.specs.Choice.{pick, pick_split, clash}
 use Rattle.base.specs.Turns.{Turn}
@@ -15,10 +15,8 @@ use Rattle.cursor.specs.Class.{digit_value, to_digit}
 use Rattle.cursor.specs.Cursor.{next_char}
 use Rattle.cursor.specs.Number.{value, dotted, digit_added, takes_dot, digits, digits_turn, read_digits}
 use Rattle.cursor.specs.declared.Cursor.{Cursor}
-use Rattle.cursor.specs.declared.Next.TheVariants.{Got}
 use Rattle.cursor.specs.declared.number.Digits.{Digits}
 use Rattle.cursor.specs.declared.number.Sum.{Sum}
-use Rattle.cursor.proofs.Reaching.{split-Next}
 use Rattle.token_number.specs.Number.{is_bare_dot, finish_number, first_digit, read_unsigned, read_signed, read_number}
 use Rattle.token.specs.Read.{starts_number}
 use Rattle.token_kind.specs.Reason.{Reading}
@@ -110,7 +108,7 @@ summed_none s x n m = record { chars = []; walk = here; adds = refl; shape = dig
 
 summed_dot :
     (s : Bytes) (x r : Digits) (d : Cursor)
-    → next_char s x.end ≡ Got 46 d
+    → next_char s x.end ≡ Ok (46, d)
     → x.sum.dot ≡ false
     → Summed s (digits (dotted x.sum) d) r
     → Summed s x r
@@ -125,7 +123,7 @@ summed_dot s x r d q e h =
 
 summed_digit :
     (s : Bytes) (x r : Digits) (d : Cursor) (k v : ℕ)
-    → next_char s x.end ≡ Got k d
+    → next_char s x.end ≡ Ok (k, d)
     → to_digit k 10 ≡ Some v
     → Summed s (digits (digit_added x.sum v) d) r
     → Summed s x r
@@ -143,7 +141,7 @@ summed_digit s x r d k v q m h =
 digits_turn_lem : (s : Bytes) (x : Digits) → Goes (Summed s) (λ y. left s y.end) x (digits_turn s x)
 digits_turn_lem s x =
     let P : Turn Digits Digits → Type 0 = Goes (Summed s) (λ y. left s y.end) x in
-    split-Next P (next_char s x.end) _ _
+    split_result2 P (next_char s x.end) _ _
     (λ d q. summed_none s x (stops_done s x.end d is_digit q) (λ e. stops_done s x.end d is_dot q))
     λ k d q.
     split_option P (to_digit k 10) _ _
@@ -201,7 +199,7 @@ dot_unsigned f (behind (one u q) n) = fraction (one u q) n
 
 finished :
     (s : Bytes) (negative : Bool) (b c : Cursor) (k : ℕ) (x : Sum)
-    → next_char s b ≡ Got k c
+    → next_char s b ≡ Ok (k, c)
     → x ≡ begun k
     → ((ks : Chars) (rest : Chars) → is_bare_dot (added_all x ks) ≡ false → Digited x.dot ks rest → IsUnsigned (k ∷ ks) rest)
     → UnsignedKnown s negative b k (finish_number negative (read_digits s c x))
@@ -219,7 +217,7 @@ finished s negative b c k x q e h =
 
 reads_unsigned :
     (s : Bytes) (negative : Bool) (b c : Cursor) (k : ℕ)
-    → next_char s b ≡ Got k c
+    → next_char s b ≡ Ok (k, c)
     → UnsignedKnown s negative b k (read_unsigned s negative k c)
 unfolding read_unsigned on_option
 reads_unsigned s negative b c k q =
@@ -240,36 +238,36 @@ number_none : (s : Bytes) (b : Cursor) (k : ℕ) (x : Reading) → UnsignedKnown
 number_none s b k (Err e) h = tt
 number_none s b k (Ok (t, d)) h = subst (λ t. Readied s b t d) (sym h.is) (bare (number h.is_number) h.walk)
 
-number_plus : (s : Bytes) (b c : Cursor) (k : ℕ) → next_char s b ≡ Got 43 c → (x : Reading) → UnsignedKnown s false c k x → Known s b x
+number_plus : (s : Bytes) (b c : Cursor) (k : ℕ) → next_char s b ≡ Ok (43, c) → (x : Reading) → UnsignedKnown s false c k x → Known s b x
 number_plus s b c k q (Err e) h = tt
 number_plus s b c k q (Ok (t, d)) h = subst (λ t. Readied s b t d) (sym h.is) (bare (plus h.is_number) (step q h.walk))
 
 number_minus :
     (s : Bytes) (b c : Cursor) (k : ℕ)
-    → next_char s b ≡ Got 45 c
+    → next_char s b ≡ Ok (45, c)
     → is_digit k ≡ true
     → (x : Reading) → UnsignedKnown s true c k x
     → Known s b x
 number_minus s b c k q t (Err e) h = tt
 number_minus s b c k q t (Ok (u, d)) h = subst (λ t. Readied s b t d) (sym h.is) (bare (minus t h.is_number) (step q h.walk))
 
-pub reads_number : (s : Bytes) (b c : Cursor) (k : ℕ) → next_char s b ≡ Got k c → starts_number k ≡ true → Known s b (read_number s k c)
+pub reads_number : (s : Bytes) (b c : Cursor) (k : ℕ) → next_char s b ≡ Ok (k, c) → starts_number k ≡ true → Known s b (read_number s k c)
 unfolding read_number read_signed starts_number pick
 reads_number s b c k q h =
     pick_split (Known s b) (eqb k 45) _ _ (λ t. clash h (ap starts_number (eqb-true k 45 t))) λ t.
     pick_split (Known s b) (eqb k 43) _ _
     (λ u.
-    split-Next (Known s b) (next_char s c) _ _ (λ d m. tt) λ j d m.
+    split_result2 (Known s b) (next_char s c) _ _ (λ d m. tt) λ j d m.
     number_plus s b c j (got_as 43 q u) (read_unsigned s false j d) (reads_unsigned s false c d j m))
     (λ u. number_none s b k (read_unsigned s false k c) (reads_unsigned s false b c k q))
 
 pub reads_minus :
     (s : Bytes) (b c d : Cursor) (k : ℕ)
-    → next_char s b ≡ Got 45 c
-    → next_char s c ≡ Got k d
+    → next_char s b ≡ Ok (45, c)
+    → next_char s c ≡ Ok (k, d)
     → is_digit k ≡ true
     → Known s b (read_number s 45 c)
 unfolding read_number read_signed pick
 reads_minus s b c d k q m t =
-    split-Next (Known s b) (next_char s c) _ _ (λ e n. tt) λ j e n.
+    split_result2 (Known s b) (next_char s c) _ _ (λ e n. tt) λ j e n.
     number_minus s b c j q (ap is_digit (got_same n m).0 ∙ t) (read_unsigned s true j e) (reads_unsigned s true c e j n)

@@ -7,7 +7,7 @@ use mathlib.Core.List.{[], ◌∷◌, ◌++◌}
 use lib.Dec.{eqb}
 use lib.ListN.{length}
 use borrow.Author.Tests.{eqb-true}
-use Rattle.base.proofs.Options.{split_result2}
+use Rattle.base.proofs.Options.{ok2_first, ok2_second, split_result2}
 use Rattle.base.specs.Bytes.{Bytes, ascii, same, within}
 use Rattle.base.specs.Choice.{pick, pick_split, clash}
 use Rattle.base.specs.Turns.{Turn, more, done, after, turns}
@@ -16,12 +16,8 @@ use Rattle.base.proofs.Compare.{same_true}
 use Rattle.space.specs.Space.{among, is_white_space}
 use Rattle.cursor.specs.Class.{can_be_in_at_directive, can_start_identifier, can_continue_identifier}
 use Rattle.cursor.specs.Cursor.{next_char}
-use Rattle.cursor.specs.Elim.{on-Next}
 use Rattle.cursor.specs.declared.Cursor.{Cursor}
-use Rattle.cursor.specs.declared.Next.{Next}
-use Rattle.cursor.specs.declared.Next.TheVariants.{Done, Got}
 use Rattle.cursor.proofs.Onward.{read, read_within}
-use Rattle.cursor.proofs.Reaching.{split-Next}
 use Rattle.token.specs.Read.{
   range,
   identifier_end,
@@ -62,6 +58,7 @@ use Rattle.lexical.specs.Lexed.{characters_at}
 use Rattle.lexical.proofs.Characters.{characters_got, Walk, here, step, walk_one, walk_on, stops_done, stops_got}
 use Rattle.lexical.proofs.Letters.{word_bytes}
 use Rattle.std.specs.Prelude.{Result, Ok, Err}
+use Rattle.base.specs.Option.{on_result2}
 
 -- ---- loops, from their last turn back to the first
 
@@ -84,27 +81,19 @@ module _ {S R : Type 0} (Q : S → R → Type 0) (μ : S → ℕ) (f : S → Tur
 abbrev pub left : Bytes → Cursor → ℕ
 left s c = length s - c.at
 
-pub left_falls : (s : Bytes) (c d : Cursor) (k : ℕ) → next_char s c ≡ Got k d → left s d < left s c
+pub left_falls : (s : Bytes) (c d : Cursor) (k : ℕ) → next_char s c ≡ Ok (k, d) → left s d < left s c
 left_falls s c d k q = let h = read_within s c d k (read s c d k q) in omega arith
 
 -- a character that is this one
-pub got_as : {n : Next} {d : Cursor} {k : ℕ} (j : ℕ) → n ≡ Got k d → eqb k j ≡ true → n ≡ Got j d
-got_as {d = d} {k = k} j q t = q ∙ ap (λ n. Got n d) (eqb-true k j t)
+pub got_as : {n : Result (ℕ × Cursor) Cursor} {d : Cursor} {k : ℕ} (j : ℕ) → n ≡ Ok (k, d) → eqb k j ≡ true → n ≡ Ok (j, d)
+got_as {d = d} {k = k} j q t = q ∙ ap (λ n. Ok (n, d)) (eqb-true k j t)
 
 -- a cursor has one next character
-abbrev Same : ℕ → Cursor → Next → Type 0
-Same k d (Done e) = Unit {0}
-Same k d (Got j e) = (j ≡ k) × (e ≡ d)
+pub got_same : {n : Result (ℕ × Cursor) Cursor} {d e : Cursor} {k j : ℕ} → n ≡ Ok (j, e) → n ≡ Ok (k, d) → (j ≡ k) × (e ≡ d)
+got_same p q = let r = sym p ∙ q in (ok2_first r, ok2_second r)
 
-pub got_same : {n : Next} {d e : Cursor} {k j : ℕ} → n ≡ Got j e → n ≡ Got k d → (j ≡ k) × (e ≡ d)
-got_same {d = d} {k = k} p q = subst (Same k d) (sym q ∙ p) (refl, refl)
-
-abbrev IsGot : Next → Type 0
-IsGot (Done e) = ⊥
-IsGot (Got k e) = Unit {0}
-
-pub got_not_done : {n : Next} {d e : Cursor} {k : ℕ} → n ≡ Got k d → n ≡ Done e → ⊥
-got_not_done p q = subst IsGot (sym p ∙ q) tt
+pub got_not_done : {n : Result (ℕ × Cursor) Cursor} {d e : Cursor} {k : ℕ} → n ≡ Ok (k, d) → n ≡ Err e → ⊥
+got_not_done p q = let r = sym p ∙ q in cc
 
 -- ---- runs of characters
 
@@ -117,12 +106,12 @@ pub record Running (s : Bytes) (p : ℕ → Bool) (c d : Cursor) : Type 0 where
 
 module _ (s : Bytes) (p : ℕ → Bool) where
   abbrev word_turn : Cursor → Turn Cursor Cursor
-  word_turn c = on-Next (next_char s c) (λ e. done c) λ k d. pick (p k) (more d) (done c)
+  word_turn c = on_result2 (next_char s c) (λ e. done c) λ k d. pick (p k) (more d) (done c)
 
   word_turn_lem : (c : Cursor) → Goes (Running s p) (left s) c (word_turn c)
   word_turn_lem c =
       let P : Turn Cursor Cursor → Type 0 = Goes (Running s p) (left s) c in
-      split-Next P (next_char s c) _ _ (λ d q. record { chars = []; walk = here; run = none; stops = stops_done s c d p q }) λ k d q.
+      split_result2 P (next_char s c) _ _ (λ d q. record { chars = []; walk = here; run = none; stops = stops_done s c d p q }) λ k d q.
       pick_split P (p k) _ _
       (λ t. (
         left_falls s c d k q,
@@ -164,7 +153,7 @@ Known s b (Ok (t, d)) = Readied s b t d
 
 pub reads_identifier :
     (s : Bytes) (b c : Cursor) (k : ℕ)
-    → next_char s b ≡ Got k c
+    → next_char s b ≡ Ok (k, c)
     → can_start_identifier k ≡ true
     → Known s b (read_identifier s b.at c)
 unfolding read_identifier
@@ -187,7 +176,7 @@ reads_identifier s b c k q t =
 -- a run that begins with a character of the class is not empty
 first_of :
     (s : Bytes) (p : ℕ → Bool) (c d e : Cursor) (k : ℕ)
-    → next_char s c ≡ Got k d
+    → next_char s c ≡ Ok (k, d)
     → p k ≡ true
     → (ks : Chars) → Walk s c ks e → Run p true ks
     → begins p (characters_at s e.at) ≡ false
@@ -198,8 +187,8 @@ first_of s p c d e k q t (j ∷ js) (step {d = d'} q' w) (one u r) n =
 
 pub reads_hyphen_name :
     (s : Bytes) (b c d : Cursor) (k : ℕ)
-    → next_char s b ≡ Got 45 c
-    → next_char s c ≡ Got k d
+    → next_char s b ≡ Ok (45, c)
+    → next_char s c ≡ Ok (k, d)
     → can_continue_identifier k ≡ true
     → is_digit k ≡ false
     → Known s b (read_identifier s b.at c)
@@ -229,7 +218,7 @@ pub record Quotation (s : Bytes) (c : Cursor) (from : ℕ) (r : Range) (d : Curs
   pub quote : Cursor
   pub walk : Walk s c chars quote
   pub run : Run is_quote false chars
-  pub closed : next_char s quote ≡ Got 34 d
+  pub closed : next_char s quote ≡ Ok (34, d)
   pub is : r ≡ range from quote.at
 
 abbrev pub Quotes : Bytes → ℕ → Cursor → Result (Range × Cursor) LexerError → Type 0
@@ -238,7 +227,7 @@ Quotes s from c (Ok (r, d)) = Quotation s c from r d
 
 quoted_before :
     (s : Bytes) (from : ℕ) (c d : Cursor) (k : ℕ)
-    → next_char s c ≡ Got k d
+    → next_char s c ≡ Ok (k, d)
     → is_quote k ≡ false
     → (x : Result (Range × Cursor) LexerError) → Quotes s from d x
     → Quotes s from c x
@@ -249,7 +238,7 @@ quoted_before s from c d k q t (Ok (r, e)) h =
 quoted_turn_lem : (s : Bytes) (from : ℕ) (c : Cursor) → Goes (Quotes s from) (left s) c (quoted_turn s from c)
 quoted_turn_lem s from c =
     let P : Turn Cursor (Result (Range × Cursor) LexerError) → Type 0 = Goes (Quotes s from) (left s) c in
-    split-Next P (next_char s c) _ _ (λ d q. tt) λ k d q.
+    split_result2 P (next_char s c) _ _ (λ d q. tt) λ k d q.
     pick_split P (eqb k 34) _ _
     (λ t. record { chars = []; quote = c; walk = here; run = none; closed = got_as 34 q t; is = refl })
     (λ t. (left_falls s c d k q, quoted_before s from c d k q t))
@@ -258,7 +247,7 @@ pub quoted : (s : Bytes) (c : Cursor) → Quotes s c.at c (read_quoted s c)
 unfolding read_quoted
 quoted s c = turns_go (Quotes s c.at) (left s) (quoted_turn s c.at) (Err (lexer_error open_string c)) (quoted_turn_lem s c.at) (suc (length s)) c (omega arith)
 
-pub reads_string : (s : Bytes) (b c : Cursor) → next_char s b ≡ Got 34 c → Known s b (read_string s c)
+pub reads_string : (s : Bytes) (b c : Cursor) → next_char s b ≡ Ok (34, c) → Known s b (read_string s c)
 unfolding read_string
 reads_string s b c q =
     split_result2 (Known s b) (read_quoted s c) _ _ (λ d m. tt) λ r d m.
@@ -286,7 +275,7 @@ record Gapped (s : Bytes) (bracket : ℕ) (c d : Cursor) : Type 0 where
 
 gap_char :
     (s : Bytes) (bracket : ℕ) (c d : Cursor) (k : ℕ)
-    → next_char s c ≡ Got k d
+    → next_char s c ≡ Ok (k, d)
     → is_gap bracket k ≡ true
     → Gapped s bracket c d
 gap_char s bracket c d k q t = record { chars = k ∷ []; walk = walk_one q; is = a_gap t }
@@ -298,7 +287,7 @@ gapped : (s : Bytes) (bracket : ℕ) (c : Cursor) → Gapped s bracket c (skip_o
 unfolding skip_one pick
 gapped s bracket c =
     let P : Cursor → Type 0 = Gapped s bracket c in
-    split-Next P (next_char s c) _ _ (λ d q. gap_none s bracket c (stops_done s c d (is_gap bracket) q)) λ k d q.
+    split_result2 P (next_char s c) _ _ (λ d q. gap_none s bracket c (stops_done s c d (is_gap bracket) q)) λ k d q.
     let e : (b : Bool) → is_white_space k ≡ b → is_gap bracket k ≡ pick b true (eqb k bracket) = λ b t. ap (λ b. pick b true (eqb k bracket)) t in
     pick_split P (is_white_space k) _ _ (λ t. gap_char s bracket c d k q (e true t)) λ t.
     pick_split P (eqb k bracket) _ _
@@ -319,7 +308,7 @@ unfolding read_import
 reads_import s b e o =
     let g = gapped s 40 e in
     let f = skip_one s 40 e in
-    split-Next (Known s b) (next_char s f) _ _ (λ d q. tt) λ k d q.
+    split_result2 (Known s b) (next_char s f) _ _ (λ d q. tt) λ k d q.
     pick_split (Known s b) (eqb k 34) _ _
     (λ t.
     split_result2 (Known s b) (read_quoted s d) _ _ (λ h m. tt) λ r h m.
@@ -342,7 +331,7 @@ reads_import s b e o =
 
 reads_directive :
     (s : Bytes) (b c e : Cursor) (k : ℕ) (ks : Chars)
-    → next_char s b ≡ Got 64 c
+    → next_char s b ≡ Ok (64, c)
     → Walk s c (k ∷ ks) e
     → Run can_be_in_at_directive true (k ∷ ks)
     → begins can_be_in_at_directive (characters_at s e.at) ≡ false
@@ -369,10 +358,10 @@ reads_directive s b c e k ks q w r n =
       is = refl;
     })
 
-pub reads_at : (s : Bytes) (b c : Cursor) → next_char s b ≡ Got 64 c → Known s b (read_at_directive s c)
+pub reads_at : (s : Bytes) (b c : Cursor) → next_char s b ≡ Ok (64, c) → Known s b (read_at_directive s c)
 unfolding read_at_directive
 reads_at s b c q =
-    split-Next (Known s b) (next_char s c) _ _ (λ d m. tt) λ k d m.
+    split_result2 (Known s b) (next_char s c) _ _ (λ d m. tt) λ k d m.
     pick_split (Known s b) (can_be_in_at_directive k) _ _
     (λ t.
     let r = directive_run s d in

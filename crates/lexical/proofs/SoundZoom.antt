@@ -7,15 +7,13 @@ use mathlib.Core.List.{[], ◌∷◌, ◌++◌}
 use lib.Dec.{eqb, ltb}
 use lib.ListN.{length}
 use borrow.Author.Tests.{eqb-true, ltb-true}
-use Rattle.base.proofs.Options.{split_option}
+use Rattle.base.proofs.Options.{split_option, split_result2}
 use Rattle.base.specs.Bytes.{Bytes}
 use Rattle.base.specs.Choice.{pick, pick_split, clash}
 use Rattle.color.specs.Named.{rgb}
 use Rattle.cursor.specs.Class.{digit_value, to_digit}
 use Rattle.cursor.specs.Cursor.{most, bump, next_char}
 use Rattle.cursor.specs.declared.Cursor.{Cursor}
-use Rattle.cursor.specs.declared.Next.TheVariants.{Got}
-use Rattle.cursor.proofs.Reaching.{split-Next}
 use Rattle.token_zoom.specs.Zoom.{
   read_digit,
   hex,
@@ -98,7 +96,7 @@ valued radix k = pick_split (Valued radix k) (ltb (digit_value k) radix) _ _ (λ
 
 record DigitAt (s : Bytes) (radix : ℕ) (c : Cursor) (v : ℕ) (d : Cursor) : Type 0 where
   pub ch : ℕ
-  pub char : next_char s c ≡ Got ch d
+  pub char : next_char s c ≡ Ok (ch, d)
   pub fits : below radix ch ≡ true
   pub is : v ≡ digit_value ch
 
@@ -110,7 +108,7 @@ reads_digit : (s : Bytes) (radix : ℕ) (c : Cursor) → DigitKnown s radix c (r
 unfolding read_digit
 reads_digit s radix c =
     let P : Option (ℕ × Cursor) → Type 0 = DigitKnown s radix c in
-    split-Next P (next_char s c) _ _ (λ d q. stops_done s c d (below radix) q) λ k d q.
+    split_result2 P (next_char s c) _ _ (λ d q. stops_done s c d (below radix) q) λ k d q.
     split_option P (to_digit k radix) _ _
     (λ m. stops_got s c d (below radix) q (subst (Valued radix k) m (valued radix k)))
     λ v m.
@@ -163,14 +161,14 @@ reads_level s c =
     }
 
 abbrev Hyphened : Bytes → Cursor → Bool → Cursor → Type 0
-Hyphened s c true d = next_char s c ≡ Got 45 d
+Hyphened s c true d = next_char s c ≡ Ok (45, d)
 Hyphened s c false d = (d ≡ c) × (begins is_hyphen (characters_at s c.at) ≡ false)
 
 reads_hyphen : (s : Bytes) (c : Cursor) → Hyphened s c (read_hyphen s c).0 (read_hyphen s c).1
 unfolding read_hyphen
 reads_hyphen s c =
     let P : Bool × Cursor → Type 0 = λ x. Hyphened s c x.0 x.1 in
-    split-Next P (next_char s c) _ _ (λ d q. (refl, stops_done s c d is_hyphen q)) λ k d q.
+    split_result2 P (next_char s c) _ _ (λ d q. (refl, stops_done s c d is_hyphen q)) λ k d q.
     pick_split P (eqb k 45) _ _ (λ t. got_as 45 q t) (λ t. (refl, stops_got s c d is_hyphen q t))
 
 level_begins : {ks rest : Chars} {m : ℕ} → IsLevel ks rest m → begins is_digit (ks ++ rest) ≡ true
@@ -191,7 +189,7 @@ module _ (s : Bytes) (b c : Cursor) (o : Walk s b (124 ∷ 122 ∷ []) c) where
   reads_zooms None true None x y z l h m = tt
   reads_zooms None false None x y z l h m = tt
   reads_zooms None true (Some n) x y z l h m =
-      bare (zooms (up_to m.is)) (walk_on o (step (subst (λ (e : Cursor). next_char s e ≡ Got 45 y) l.0 h) m.walk))
+      bare (zooms (up_to m.is)) (walk_on o (step (subst (λ (e : Cursor). next_char s e ≡ Ok (45, y)) l.0 h) m.walk))
   reads_zooms None false (Some n) x y z l h m =
       clash (subst (λ (e : Cursor). begins is_digit (characters_at s e.at) ≡ true) (h.0 ∙ l.0) (level_digit m)) l.1
   reads_zooms (Some k) true None x y z l h m =
@@ -210,10 +208,10 @@ module _ (s : Bytes) (b c : Cursor) (o : Walk s b (124 ∷ 122 ∷ []) c) where
       let i = subst (λ rest. IsLevel l.chars rest k) (walk_characters w) l.is in
       bare (zooms (unsaid i m.is)) (walk_on o (walk_on l.walk w))
 
-pub reads_zoom : (s : Bytes) (b c : Cursor) → next_char s b ≡ Got 124 c → Known s b (read_zoom_range s c)
+pub reads_zoom : (s : Bytes) (b c : Cursor) → next_char s b ≡ Ok (124, c) → Known s b (read_zoom_range s c)
 unfolding read_zoom_range read_levels
 reads_zoom s b c q =
-    split-Next (Known s b) (next_char s c) _ _ (λ d m. tt) λ k d m.
+    split_result2 (Known s b) (next_char s c) _ _ (λ d m. tt) λ k d m.
     pick_split (Known s b) (eqb k 122) _ _
     (λ t.
     let min = read_zoom_level s d in
@@ -286,7 +284,7 @@ three_digits_lem a b c p q r =
     let z : 16 * c + c ≡ 17 * c = omega arith in
     doubled-digits a b c p q r ∙ rw (x, y, z) refl
 
-module _ (s : Bytes) (b c d : Cursor) (q : next_char s b ≡ Got 35 c) (n : begins is_hex_digit (characters_at s d.at) ≡ false) (v : ℕ) where
+module _ (s : Bytes) (b c d : Cursor) (q : next_char s b ≡ Ok (35, c)) (n : begins is_hex_digit (characters_at s d.at) ≡ false) (v : ℕ) where
   six_color :
       (ks : Chars)
       → Walk s c ks d
@@ -332,7 +330,7 @@ module _ (s : Bytes) (b c d : Cursor) (q : next_char s b ≡ Got 35 c) (n : begi
   three_color (k₁ ∷ k₂ ∷ []) w r e p = absurd (omega arith)
   three_color (k₁ ∷ k₂ ∷ k₃ ∷ k₄ ∷ ks) w r e p = let g = counted_grows 4 ks in absurd (omega arith)
 
-pub reads_color : (s : Bytes) (b c : Cursor) → next_char s b ≡ Got 35 c → Known s b (read_color s c)
+pub reads_color : (s : Bytes) (b c : Cursor) → next_char s b ≡ Ok (35, c) → Known s b (read_color s c)
 unfolding read_color
 reads_color s b c q =
     let h = read_hex_digits s c in

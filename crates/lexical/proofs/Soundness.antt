@@ -16,10 +16,9 @@ use Rattle.cursor.specs.Blank.{line_turn, skip_line_comment, block_turn, skip_bl
 use Rattle.cursor.specs.Class.{in_span, can_start_identifier, can_continue_identifier}
 use Rattle.cursor.specs.Cursor.{next_char}
 use Rattle.cursor.specs.declared.Cursor.{Cursor}
-use Rattle.cursor.specs.declared.Next.TheVariants.{Done, Got}
 use Rattle.cursor.specs.declared.Significant.{Significant}
 use Rattle.cursor.specs.declared.Significant.TheVariants.{Ended, Found}
-use Rattle.cursor.proofs.Reaching.{split-Next, split-Comment, split-Significant, end_stays, skipped_on}
+use Rattle.cursor.proofs.Reaching.{split-Comment, split-Significant, end_stays, skipped_on}
 use Rattle.token.specs.Read.{range, read_after_minus, read_other, starts_number, read_long, read_single, read_pair, read_token}
 use Rattle.token_kind.specs.Signs.{get_two_char_simple_token, get_one_char_simple_token}
 use Rattle.token.specs.Step.{step_of}
@@ -106,12 +105,12 @@ record Lined (s : Bytes) (c e : Cursor) : Type 0 where
   pub last : Cursor
   pub walk : Walk s c chars last
   pub run : Run is_newline false chars
-  pub ends : (next_char s last ≡ Got 10 e) ⊎ (next_char s last ≡ Done e)
+  pub ends : (next_char s last ≡ Ok (10, e)) ⊎ (next_char s last ≡ Err e)
 
 line_turn_lem : (s : Bytes) (c : Cursor) → Goes (Lined s) (left s) c (line_turn s c)
 line_turn_lem s c =
     let P : Turn Cursor Cursor → Type 0 = Goes (Lined s) (left s) c in
-    split-Next P (next_char s c) _ _ (λ d q. record { chars = []; last = c; walk = here; run = none; ends = inr q }) λ k d q.
+    split_result2 P (next_char s c) _ _ (λ d q. record { chars = []; last = c; walk = here; run = none; ends = inr q }) λ k d q.
     pick_split P (eqb k 10) _ _
     (λ t. record { chars = []; last = c; walk = here; run = none; ends = inl (got_as 10 q t) })
     (λ t. (
@@ -132,7 +131,7 @@ abbrev Block : Bytes → Cursor → Result Cursor Cursor → Type 0
 Block s c (Err e) = Unit {0}
 Block s c (Ok e) = Blocked s c e
 
-block_inner : (s : Bytes) (c d : Cursor) (k : ℕ) → next_char s c ≡ Got k d → eqb k 42 ≡ false → (x : Result Cursor Cursor) → Block s d x → Block s c x
+block_inner : (s : Bytes) (c d : Cursor) (k : ℕ) → next_char s c ≡ Ok (k, d) → eqb k 42 ≡ false → (x : Result Cursor Cursor) → Block s d x → Block s c x
 block_inner s c d k q t (Err e) h = tt
 block_inner s c d k q t (Ok e) h = record { chars = k ∷ h.chars; walk = step q h.walk; is = inner t h.is }
 
@@ -141,8 +140,8 @@ block_long = elim [ ]
 
 block_star :
     (s : Bytes) (c d f : Cursor) (j : ℕ)
-    → next_char s c ≡ Got 42 d
-    → next_char s d ≡ Got j f
+    → next_char s c ≡ Ok (42, d)
+    → next_char s d ≡ Ok (j, f)
     → eqb j 47 ≡ false
     → (x : Result Cursor Cursor) → Block s d x
     → Block s c x
@@ -154,7 +153,7 @@ block_star s c d f j q m u (Ok e) h = go h.chars h.walk h.is
     go (k ∷ ks) (step p w) b =
         record { chars = 42 ∷ k ∷ ks; walk = step q (step p w); is = star (ap (λ n. eqb n 47) (got_same p m).0 ∙ u) b }
 
-block_open : (s : Bytes) (c d f : Cursor) → next_char s d ≡ Done f → (x : Result Cursor Cursor) → Block s d x → Block s c x
+block_open : (s : Bytes) (c d f : Cursor) → next_char s d ≡ Err f → (x : Result Cursor Cursor) → Block s d x → Block s c x
 block_open s c d f m (Err e) h = tt
 block_open s c d f m (Ok e) h = go h.chars h.walk h.is
   where
@@ -165,10 +164,10 @@ block_open s c d f m (Ok e) h = go h.chars h.walk h.is
 block_turn_lem : (s : Bytes) (c : Cursor) → Goes (Block s) (left s) c (block_turn s c)
 block_turn_lem s c =
     let P : Turn Cursor (Result Cursor Cursor) → Type 0 = Goes (Block s) (left s) c in
-    split-Next P (next_char s c) _ _ (λ d q. tt) λ k d q.
+    split_result2 P (next_char s c) _ _ (λ d q. tt) λ k d q.
     pick_split P (eqb k 42) _ _
     (λ t.
-    split-Next P (next_char s d) _ _ (λ f m. (left_falls s c d k q, block_open s c d f m)) λ j f m.
+    split_result2 P (next_char s d) _ _ (λ f m. (left_falls s c d k q, block_open s c d f m)) λ j f m.
     pick_split P (eqb j 47) _ _
     (λ u. record { chars = 42 ∷ 47 ∷ []; walk = step (got_as 42 q t) (walk_one (got_as 47 m u)); is = close })
     (λ u. (left_falls s c d k q, block_star s c d f j (got_as 42 q t) m u)))
@@ -186,7 +185,7 @@ record Skipping (s : Bytes) (c e : Cursor) : Type 0 where
   pub reads : Reads s c.at chars e.at
   pub before : (ks rest : Chars) → characters_at s e.at ≡ ks ++ rest → IsBlank ks rest → IsBlank (chars ++ ks) rest
 
-space_skips : (s : Bytes) (c d : Cursor) (k : ℕ) → next_char s c ≡ Got k d → is_white_space k ≡ true → Skipping s c d
+space_skips : (s : Bytes) (c d : Cursor) (k : ℕ) → next_char s c ≡ Ok (k, d) → is_white_space k ≡ true → Skipping s c d
 space_skips s c d k q t =
     record { chars = k ∷ []; reads = walk_reads (walk_one q); before = λ ks rest e b. space t b }
 
@@ -197,13 +196,13 @@ last_line_lem xs r (k ∷ ks) rest e = absurd (not_empty e)
 
 line_skips :
     (s : Bytes) (c d e f : Cursor)
-    → next_char s c ≡ Got 47 d
-    → next_char s d ≡ Got 47 e
+    → next_char s c ≡ Ok (47, d)
+    → next_char s d ≡ Ok (47, e)
     → Lined s e f
     → Skipping s c f
 line_skips s c d e f q m h = go h.ends
   where
-    go : (next_char s h.last ≡ Got 10 f) ⊎ (next_char s h.last ≡ Done f) → Skipping s c f
+    go : (next_char s h.last ≡ Ok (10, f)) ⊎ (next_char s h.last ≡ Err f) → Skipping s c f
     go (inl n) =
         record {
           chars = 47 ∷ 47 ∷ h.chars ++ (10 ∷ []);
@@ -221,8 +220,8 @@ line_skips s c d e f q m h = go h.ends
 
 block_skips :
     (s : Bytes) (c d e f : Cursor)
-    → next_char s c ≡ Got 47 d
-    → next_char s d ≡ Got 42 e
+    → next_char s c ≡ Ok (47, d)
+    → next_char s d ≡ Ok (42, e)
     → Blocked s e f
     → Skipping s c f
 block_skips s c d e f q m h =
@@ -239,18 +238,18 @@ CommentSkips s c (Ok (Some e)) = Skipping s c e
 
 blocked_skips :
     (s : Bytes) (c d e : Cursor)
-    → next_char s c ≡ Got 47 d
-    → next_char s d ≡ Got 42 e
+    → next_char s c ≡ Ok (47, d)
+    → next_char s d ≡ Ok (42, e)
     → (x : Result Cursor Cursor) → Block s e x
     → CommentSkips s c (on_result x Err λ f. Ok (Some f))
 unfolding on_result
 blocked_skips s c d e q m (Err f) h = tt
 blocked_skips s c d e q m (Ok f) h = block_skips s c d e f q m h
 
-comment_skips : (s : Bytes) (c d : Cursor) → next_char s c ≡ Got 47 d → CommentSkips s c (try_skip_comment s d)
+comment_skips : (s : Bytes) (c d : Cursor) → next_char s c ≡ Ok (47, d) → CommentSkips s c (try_skip_comment s d)
 unfolding try_skip_comment
 comment_skips s c d q =
-    split-Next (CommentSkips s c) (next_char s d) _ _ (λ e m. tt) λ k e m.
+    split_result2 (CommentSkips s c) (next_char s d) _ _ (λ e m. tt) λ k e m.
     pick_split (CommentSkips s c) (eqb k 47) _ _ (λ t. line_skips s c d e (skip_line_comment s e) q (got_as 47 m t) (lined s e)) λ t.
     pick_split (CommentSkips s c) (eqb k 42) _ _
     (λ u. blocked_skips s c d e q (got_as 42 m u) (skip_block_comment s e) (blocked s e))
@@ -263,7 +262,7 @@ record Begun (s : Bytes) (c : Cursor) (at k : ℕ) (d : Cursor) : Type 0 where
   pub skipped : Reads s c.at blanks place.at
   pub is_blank : IsBlank blanks (characters_at s place.at)
   pub is : at ≡ place.at
-  pub char : next_char s place ≡ Got k d
+  pub char : next_char s place ≡ Ok (k, d)
 
 abbrev Blanks : Bytes → Cursor → Result Significant Cursor → Type 0
 Blanks s c (Err d) = Unit {0}
@@ -288,13 +287,13 @@ blanks_before s c e h (Ok (Found at k d)) b =
 significant_turn_lem : (s : Bytes) (c : Cursor) → Goes (Blanks s) (left s) c (significant_turn s c)
 significant_turn_lem s c =
     let P : Turn Cursor (Result Significant Cursor) → Type 0 = Goes (Blanks s) (left s) c in
-    split-Next P (next_char s c) _ _ (λ d q. subst (λ ks. IsBlank ks []) (sym (characters_done s c d q)) nothing) λ k d q.
+    split_result2 P (next_char s c) _ _ (λ d q. subst (λ ks. IsBlank ks []) (sym (characters_done s c d q)) nothing) λ k d q.
     let b : Begun s c c.at k d = record { blanks = []; place = c; skipped = nothing; is_blank = nothing; is = refl; char = q } in
     pick_split P (is_white_space k) _ _ (λ t. (left_falls s c d k q, blanks_before s c d (space_skips s c d k q t))) λ t.
     pick_split P (eqb k 47) _ _
     (λ u.
     split-Comment P (try_skip_comment s d) _ _ _ (λ e m. tt) (λ m. b) λ e m. (
-      skipped_on s c d e k (Got k d) (Ok (Some e)) (sym q) refl (sym m) refl,
+      skipped_on s c d e k (Ok (k, d)) (Ok (Some e)) (sym q) refl (sym m) refl,
       blanks_before s c e (subst (CommentSkips s c) m (comment_skips s c d (got_as 47 q u))),
     ))
     (λ u. b)
@@ -305,23 +304,23 @@ blanks_skipped s c = turns_go (Blanks s) (left s) (significant_turn s) (Ok (Ende
 
 -- ---- tokens
 
-reads_after_minus : (s : Bytes) (b c : Cursor) → next_char s b ≡ Got 45 c → Known s b (read_after_minus s b.at c)
+reads_after_minus : (s : Bytes) (b c : Cursor) → next_char s b ≡ Ok (45, c) → Known s b (read_after_minus s b.at c)
 unfolding read_after_minus
 reads_after_minus s b c q =
-    split-Next (Known s b) (next_char s c) _ _ (λ d m. tt) λ k d m.
+    split_result2 (Known s b) (next_char s c) _ _ (λ d m. tt) λ k d m.
     pick_split (Known s b) (in_span 48 57 k) _ _ (λ t. reads_minus s b c d k q m (sym (digit_span k) ∙ t)) λ t.
     pick_split (Known s b) (can_continue_identifier k) _ _
     (λ u. reads_hyphen_name s b c d k q m u (sym (digit_span k) ∙ t))
     (λ u. tt)
 
-reads_other : (s : Bytes) (b c : Cursor) (k : ℕ) → next_char s b ≡ Got k c → Known s b (read_other s b.at k c)
+reads_other : (s : Bytes) (b c : Cursor) (k : ℕ) → next_char s b ≡ Ok (k, c) → Known s b (read_other s b.at k c)
 unfolding read_other
 reads_other s b c k q =
     pick_split (Known s b) (eqb k 45) _ _ (λ t. reads_after_minus s b c (got_as 45 q t)) λ t.
     pick_split (Known s b) (eqb k 124) _ _ (λ u. reads_zoom s b c (got_as 124 q u)) λ u.
     pick_split (Known s b) (eqb k 35) _ _ (λ v. reads_color s b c (got_as 35 q v)) (λ v. tt)
 
-reads_star : (s : Bytes) (b c : Cursor) → next_char s b ≡ Got 42 c → Known s b (Ok (Identifier (range b.at c.at), c))
+reads_star : (s : Bytes) (b c : Cursor) → next_char s b ≡ Ok (42, c) → Known s b (Ok (Identifier (range b.at c.at), c))
 reads_star s b c q =
     record {
       before = [];
@@ -337,7 +336,7 @@ reads_star s b c q =
       is = refl;
     }
 
-reads_long : (s : Bytes) (b c : Cursor) (k : ℕ) → next_char s b ≡ Got k c → Known s b (read_long s b.at k c)
+reads_long : (s : Bytes) (b c : Cursor) (k : ℕ) → next_char s b ≡ Ok (k, c) → Known s b (read_long s b.at k c)
 unfolding read_long
 reads_long s b c k q =
     pick_split (Known s b) (eqb k 64) _ _ (λ t. reads_at s b c (got_as 64 q t)) λ t.
@@ -348,7 +347,7 @@ reads_long s b c k q =
 
 reads_single :
     (s : Bytes) (b c : Cursor) (k : ℕ)
-    → next_char s b ≡ Got k c
+    → next_char s b ≡ Ok (k, c)
     → begins (pairs_with k) (characters_at s c.at) ≡ false
     → Known s b (read_single s b.at k c)
 unfolding read_single
@@ -359,16 +358,16 @@ abbrev Paired : Bytes → Cursor → ℕ → Cursor → Option (Token × Cursor)
 Paired s b k c None = begins (pairs_with k) (characters_at s c.at) ≡ false
 Paired s b k c (Some (t, d)) = Readied s b t d
 
-reads_pair : (s : Bytes) (b c : Cursor) (k : ℕ) → next_char s b ≡ Got k c → Paired s b k c (read_pair s k c)
+reads_pair : (s : Bytes) (b c : Cursor) (k : ℕ) → next_char s b ≡ Ok (k, c) → Paired s b k c (read_pair s k c)
 unfolding read_pair on_option
 reads_pair s b c k q =
     let P : Option (Token × Cursor) → Type 0 = Paired s b k c in
-    split-Next P (next_char s c) _ _ (λ d m. stops_done s c d (pairs_with k) m) λ j d m.
+    split_result2 P (next_char s c) _ _ (λ d m. stops_done s c d (pairs_with k) m) λ j d m.
     split_option P (get_two_char_simple_token k j) _ _
     (λ n. stops_got s c d (pairs_with k) m (ap (λ x. on_option x false λ t. true) n))
     (λ t n. bare (pair n) (step q (walk_one m)))
 
-reads_token : (s : Bytes) (b c : Cursor) (k : ℕ) → next_char s b ≡ Got k c → Known s b (read_token s b.at k c)
+reads_token : (s : Bytes) (b c : Cursor) (k : ℕ) → next_char s b ≡ Ok (k, c) → Known s b (read_token s b.at k c)
 unfolding read_token
 reads_token s b c k q =
     split_option2 (Known s b) (read_pair s k c) _ _

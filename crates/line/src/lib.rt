@@ -8,18 +8,19 @@ ghost use Rattle.line.specs.Lines.{layer_line, property_line, refusal_line, writ
 
 use base::refusal::Refusal;
 use put::Line;
+use table::Tables;
 use walk::maps::{ROW, selector_at};
 use walk::names::{layer_name, name_of};
 
 mod put;
 
 // The line of layer i of the maps.
-pub fn layer_line(bundle: &[u8], selectors: &[u32], maps: &[u32], i: usize, out: &mut [u8]) -> usize
-    ensures { (result, out.new) ≡ written (layer_line (layer_in bundle.now selectors.now (get_or maps.now (i * 131) 0))) out.old }
+pub fn layer_line(tables: &Tables, maps: &[u32], i: usize, out: &mut [u8]) -> usize
+    ensures { (result, out.new) ≡ written (layer_line (layer_in tables.now.bundle.now tables.now.selectors.now (get_or maps.now (i * 131) 0))) out.old }
 {
     let mut line = Line { out, n: 0 };
     line.put_bytes(b"layer ");
-    line.put_bytes(layer_name(bundle, selectors, selector_at(maps, i)));
+    line.put_bytes(layer_name(tables, selector_at(maps, i)));
     line.put_byte(b'\n');
     line.n
 }
@@ -32,19 +33,12 @@ pub fn property_count(maps: &[u32], i: usize) -> u32
 }
 
 // The line of property j of layer i of the maps.
-pub fn property_line(
-    bundle: &[u8],
-    properties: &[u32],
-    maps: &[u32],
-    i: usize,
-    j: usize,
-    out: &mut [u8],
-) -> usize
-    ensures { (result, out.new) ≡ written (property_line (name_at bundle.now properties.now (get_or maps.now (i * 131 + 2 + j) 0)) (get_or maps.now (i * 131 + 2 + j) 0)) out.old }
+pub fn property_line(tables: &Tables, maps: &[u32], i: usize, j: usize, out: &mut [u8]) -> usize
+    ensures { (result, out.new) ≡ written (property_line (name_at tables.now.bundle.now tables.now.properties.now (get_or maps.now (i * 131 + 2 + j) 0)) (get_or maps.now (i * 131 + 2 + j) 0)) out.old }
 {
     let p = property_number(maps, i, j);
     let mut line = Line { out, n: 0 };
-    line.put_bytes(name_of(bundle, properties, p));
+    line.put_bytes(name_of(tables, p));
     line.put_number(u64::from(p));
     line.put_byte(b'\n');
     line.n

@@ -8,7 +8,8 @@ use base::{Range, part};
 use capi::mapcss_load;
 use std::io;
 use stdio::cases::{
-    bits_of, ends_at, is_byte, is_refusal, is_short, long_at, piece_at, replay, short_at, words_are,
+    bits_of, count_at, ends_at, is_byte, is_refusal, is_short, long_at, piece_at, replay, short_at,
+    words_are,
 };
 
 fn main(rt: HostRuntime) -> io::Result<()> {
@@ -99,24 +100,12 @@ fn is_answer(answer: &[u8], number: u64, out: [u64; 6]) -> bool {
         return false;
     }
     if number == 0 {
-        return is_short(answer, 1, out[0])
-            && is_short(answer, 3, out[1])
-            && is_short(answer, 5, out[2])
-            && is_short(answer, 7, out[3])
-            && is_short(answer, 9, out[4])
-            && is_short(answer, 11, out[5]);
+        return out
+            .iter()
+            .enumerate()
+            .all(|(i, &n)| is_short(answer, 2 * i + 1, n));
     }
     out[5] == 0 && is_refusal(answer, &out)
-}
-
-// A stored count; a refusal leaves no entries.
-fn count_at(answer: &[u8], number: u64, i: usize) -> usize
-    ensures { result ≤ 65535 }
-{
-    if number == 0 {
-        return short_at(answer, i);
-    }
-    0
 }
 
 // Whether the table has the stored numbers by their bits, of which there are so many from a place on, and zeros behind them.

@@ -7,7 +7,7 @@ use mathlib.Core.List.{List, [], ◌∷◌, ◌++◌, map, flat_map, Memᴰ}
 use mathlib.Core.Option.{Option}
 use lib.IntN.{ℤ}
 use Rattle.base.specs.Bytes.{Bytes}
-use Rattle.base.specs.Map.{Entry, Map, lookup}
+use Rattle.base.specs.Map.{Entry, lookup}
 use Rattle.base.specs.Entity.{Entity}
 use Rattle.entity.specs.Layout.{single_of, value_of}
 use Rattle.sheet.specs.Digits.{digits_for}
@@ -28,13 +28,13 @@ use Rattle.printing.specs.Plate.{five_of}
 use Rattle.style.specs.declared.Settings.{Settings}
 use Rattle.styles.specs.declared.EntityStyles.{EntityStyles}
 use Rattle.shown.specs.Style.{settings_shown}
-use Rattle.shown.specs.Styles.{Styling, declined, styled, styling_of, styles_held}
+use Rattle.shown.specs.Styles.{styled, styling_of, styles_held}
 use Rattle.shown.proofs.StylesAre.{styles_are}
 use Rattle.mapcss.specs.Sheets.{ReadsAs}
 use Rattle.mapcss.specs.Loads.{Loads}
 use Rattle.mapcss.specs.Maps.{maps_answered, layers_shown}
 use Rattle.mapcss.specs.Styles.{styles_shown, styles_answered, StylesOfSheet}
-use Rattle.mapcss.specs.Isolation.{Handed, rules_of, entity_of, maps, layers_in, layers_of, styles, SameReach, MapsIsolated, SameStyle, StylesIsolated, LengthsAlike, IdsAlike}
+use Rattle.mapcss.specs.Isolation.{Handed, rules_of, entity_of, maps, layers_in, layers_of, styles, MapsIsolated, StylesIsolated, LengthsAlike, IdsAlike}
 use Rattle.mapcss.proofs.Loading.{sound, exactly, never_broken, rules_spelled, one_reading_each}
 use Rattle.mapcss.proofs.Maps.{maps_of_sheet}
 use Rattle.std.specs.Prelude.{Ok, Result, Err}

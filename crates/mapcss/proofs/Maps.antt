@@ -1,24 +1,21 @@
 -- The property maps beside a loaded sheet, from the walk over tables and the theory.
-use Prim.Native.Nat.{ℕ}
-use mathlib.Core.Path.{◌≡◌, refl, sym, ap, ◌∙◌}
-use mathlib.Core.List.{List, map, map-map}
+use mathlib.Core.Path.{◌≡◌, sym, ap, ◌∙◌}
+use mathlib.Core.List.{map, map-map}
 use Rattle.base.specs.Bytes.{Bytes}
 use Rattle.cascade.proofs.MeaningProof.{demand_2}
 use Rattle.cascade.specs.Numbered.{map_rule, map_answer}
 use Rattle.cascade.proofs.NumberedLaws.{maps_mapped}
-use Rattle.cascade.specs.Walk.{Answer, property_maps}
+use Rattle.cascade.specs.Walk.{property_maps}
 use Rattle.entity.specs.Layout.{value_of}
-use Rattle.entity.specs.declared.EntityRange.{EntityRange}
 use Rattle.grammar.specs.Rules.{rules_of_reading}
 use Rattle.sheet.specs.Digits.{digits_for}
-use Rattle.sheet.specs.Sheet.{Rule, Value}
 use Rattle.parser.specs.Load.{Held}
 use Rattle.parser.specs.declared.Counts.{Counts}
 use Rattle.decode.specs.Decode.{places, numbered_at, rules_at}
 use Rattle.maps.proofs.Held.{maps_are}
 use Rattle.printing.specs.Plate.{five_of}
 use Rattle.mapcss.specs.Loads.{spelled_by}
-use Rattle.mapcss.specs.Maps.{value_numbered, maps_call, maps_answered, MapsOfSheet, CascadeOfSheet}
+use Rattle.mapcss.specs.Maps.{value_numbered, maps_answered, MapsOfSheet, CascadeOfSheet}
 use Rattle.mapcss.proofs.Loading.{exactly, never_broken, rules_spelled}
 
 -- the rules with values are the rules with numbers, each number its value

@@ -1,7 +1,7 @@
 -- What the reader reads from a bundle is what the lexical grammar makes of its characters.
-use Prim.Native.Nat.{ℕ, suc}
-use mathlib.Core.Path.{◌≡◌, refl, sym, ap, ◌∙◌, subst}
-use mathlib.Core.Bool.{Bool, true, false}
+use Prim.Native.Nat.{ℕ}
+use mathlib.Core.Path.{◌≡◌, refl, sym, ap, subst}
+use mathlib.Core.Bool.{Bool}
 use mathlib.Core.List.{List, [], ◌∷◌}
 use mathlib.Core.Option.{none, some}
 use lib.Ieee.{Float}
@@ -27,7 +27,7 @@ use Rattle.grammar.specs.Accepted.{Reads}
 use Rattle.grammar.specs.Grammar.{IsSheet, finish, a_rule, defined, dropped, imported}
 use Rattle.grammar.specs.Input.{Next, broken, end, token}
 use Rattle.grammar.specs.Reading.{Reading, Colors}
-use Rattle.grammar.specs.Stream.{Gives, here, ◌▸◌, WholeTo, Whole, TextOf}
+use Rattle.grammar.specs.Stream.{Gives, here, ◌▸◌, Whole, TextOf}
 use Rattle.grammar.specs.Token.{Token as Token'}
 use Rattle.input.specs.Source.{Spot, spot, source, next_at}
 use Rattle.keep.specs.Source.{reading}

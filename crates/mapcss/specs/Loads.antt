@@ -6,7 +6,7 @@ use Rattle.bundle.specs.Bundle.{check_of}
 use Rattle.grammar.specs.Capacity.{tables_of, Bounded}
 use Rattle.grammar.specs.Reading.{Reading}
 use Rattle.grammar.specs.Rules.{rules_of_reading}
-use Rattle.keep.specs.Encode.{Lengths, lengths, capacities, tally_of, lent_of}
+use Rattle.keep.specs.Encode.{Lengths, capacities, tally_of, lent_of}
 use Rattle.keep.specs.Lent.{lent}
 use Rattle.keep.specs.declared.Tally.{Tally}
 use Rattle.parser.specs.Load.{Held, zeros, held_in, counts_of, load_of}

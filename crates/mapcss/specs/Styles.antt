@@ -1,6 +1,6 @@
 -- What holds of the styles of every entity beside every loaded sheet: for every bundle, every six lengths of the tables, every zoom,
 -- all settings and every entity, which may be any bytes.
-use Rattle.std.specs.Prelude.{ℕ, ◌≡◌, List, map, take, Result, Ok}
+use Rattle.std.specs.Prelude.{ℕ, ◌≡◌, map, take, Result, Ok}
 use Rattle.base.specs.Bytes.{Bytes}
 use Rattle.base.specs.Map.{Map}
 use Rattle.base.specs.declared.refusal.Refusal.{Refusal}

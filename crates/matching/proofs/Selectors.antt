@@ -4,7 +4,7 @@ use native.Mathlib.Omega.{arith}
 use mathlib.Core.Path.{◌≡◌, refl, sym, ◌∙◌, ap}
 use mathlib.Core.Bool.{Bool, true, false, ◌&&◌}
 use mathlib.Core.List.{map}
-use lib.Dec.{ltb}
+use lib.Dec.{eqb, leb, ltb}
 use borrow.Author.Tests.{le-leb, lt-leb, ltb-true, ltb-false}
 use Rattle.base.specs.Choice.{by-test}
 use Rattle.base.specs.Entity.{Entity}
@@ -35,11 +35,11 @@ module _ (z : ℕ) where
       (λ e. let l = ltb-false z (suc n) e in lt-leb z n (omega arith) ∙ sym e)
 
   module _ (w x v y : ℕ) (p : x ≡ w) where
-    pub zoom_low : z + 1 < x → false ≡ (at_least z (level_at w) && at_most z (level_at v))
-    zoom_low h = rw (low_fails w (omega arith))
+    pub zoom_low : z + 1 < x → leb x (z + 1) ≡ (at_least z (level_at w) && at_most z (level_at v))
+    zoom_low h = rw (lt-leb x (z + 1) h, low_fails w (omega arith))
 
     module _ (h : x ≤ z + 1) (q : y ≡ v) where
-      pub zoom_open : y ≡ 0 → true ≡ (at_least z (level_at w) && at_most z (level_at v))
+      pub zoom_open : y ≡ 0 → eqb y 0 ≡ (at_least z (level_at w) && at_most z (level_at v))
       zoom_open e = rw (low_holds w (omega arith), ← q, e)
 
       pub zoom_high : Not y 0 → ltb z y ≡ (at_least z (level_at w) && at_most z (level_at v))

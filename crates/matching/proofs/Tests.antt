@@ -10,6 +10,7 @@ use lib.ListN.{get_or}
 use borrow.Author.Tests.{eq-eqb, ne_eqb}
 use Rattle.base.specs.Bytes.{Bytes, ascii, same, within}
 use Rattle.base.specs.Choice.{pick, if_true, if_false, via}
+use Rattle.base.proofs.Spelled.{Spelled, spelled, missed}
 use Rattle.base.specs.Table.{zero_float}
 use Rattle.base.specs.declared.Range.{Range}
 use Rattle.group.specs.Pair.{Ranges, pairs_at}
@@ -37,20 +38,29 @@ use Rattle.base.specs.Option.{on_option}
 abbrev pub Not : ℕ → ℕ → Type 0
 Not k n = k ≡ n → ⊥
 
--- a value that says yes
-module _ (v : Bytes) (a : Bool) (p : a ≡ same v (ascii "yes")) where
-  pub true_yes : a ≡ true → true ≡ true_value (some v)
-  unfolding true_value
-  true_yes t = rw (← p, t)
+-- a value that says yes, and every other
+pub true_yes : (v : Bytes) → Spelled v (ascii "yes") (true ≡ true_value (some v))
+unfolding true_value same
+true_yes v = spelled (λ v. true_value (some v)) v (ascii "yes")
 
-  module _ (f : a ≡ false) (b : Bool) (q : b ≡ same v (ascii "true")) where
-    pub true_true : b ≡ true → true ≡ true_value (some v)
-    unfolding true_value
-    true_true t = rw (← p, f, ← q, t)
+pub true_true : (v : Bytes) → Spelled v (ascii "true") (true ≡ true_value (some v))
+unfolding true_value same
+true_true v = spelled (λ v. true_value (some v)) v (ascii "true")
 
-    pub true_one : b ≡ false → (d : Bool) → d ≡ same v (ascii "1") → d ≡ true_value (some v)
-    unfolding true_value
-    true_one g d r = rw (← p, f, ← q, g, ← r)
+pub true_one : (v : Bytes) → Spelled v (ascii "1") (true ≡ true_value (some v))
+unfolding true_value same
+true_one v = spelled (λ v. true_value (some v)) v (ascii "1")
+
+pub not_true :
+    (v : Bytes)
+    → Spelled v (ascii "yes") ⊥
+    → Spelled v (ascii "true") ⊥
+    → Spelled v (ascii "1") ⊥
+    → false ≡ true_value (some v)
+unfolding true_value
+not_true v y t o = rw (missed v (ascii "yes") y, missed v (ascii "true") t, missed v (ascii "1") o) refl
+
+pub ruleset truths = (true_yes, true_true, true_one, not_true)
 
 -- a test that reads no number
 pub ok_fit : (b : Bool) → Ok b ≡ fit_of (of_bool b)

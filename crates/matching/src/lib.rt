@@ -29,12 +29,9 @@ pub struct OutOfRange;
 pub fn matches(tables: &Tables, zoom: u8, entity: Entity, i: usize) -> Result<bool, OutOfRange>
     ensures { result ≡ fit_of (verdict zoom (value_of entity.entry.bytes.now entity.entry.range) (selector_in tables.now.bundle.now tables.now.selectors.now tables.now.tests.now tables.now.numbers.now i)) }
 {
-    if fits_zoom(tables.selectors, i, zoom) {
-        let kind = ObjectKind::of(word_of(tables.selectors, i, 0));
-        if fits_type(kind, entity.range.kind) {
-            return tests_fit(tables, entity, range_of(tables.selectors, i, 3));
-        }
-        return Ok(false);
+    let kind = ObjectKind::of(word_of(tables.selectors, i, 0));
+    if fits_zoom(tables.selectors, i, zoom) && fits_type(kind, entity.range.kind) {
+        return tests_fit(tables, entity, range_of(tables.selectors, i, 3));
     }
     Ok(false)
 }
@@ -43,15 +40,10 @@ pub fn matches(tables: &Tables, zoom: u8, entity: Entity, i: usize) -> Result<bo
 fn fits_zoom(selectors: &[u32], i: usize, zoom: u8) -> bool
     ensures { result ≡ (at_least zoom (level_at (word_at selectors.now i 1)) && at_most zoom (level_at (word_at selectors.now i 2))) }
 {
+    let zoom = zoom as usize;
     let lowest = word_of(selectors, i, 1);
-    if zoom as usize + 1 < lowest {
-        return false;
-    }
     let highest = word_of(selectors, i, 2);
-    if highest == 0 {
-        return true;
-    }
-    (zoom as usize) < highest
+    lowest <= zoom + 1 && (highest == 0 || zoom < highest)
 }
 
 // Whether a selector of a kind of objects takes an entity's kind.
@@ -93,13 +85,12 @@ fn test_fits(tables: &Tables, entity: Entity, i: usize) -> Result<bool, OutOfRan
 fn tag_of(tables: &Tables, entity: Entity, i: usize) -> Option<Range>
     ensures { result ≡ value_in entity.entry.bytes.now (key_at tables.now.bundle.now tables.now.tests.now i) (pairs_at entity.entry.range.count entity.entry.bytes.now entity.entry.range.tags) }
 {
-    let Entity { bytes, range } = entity;
     let first = base::part(tables.bundle, range_of(tables.tests, i, 1));
     if word_of(tables.tests, i, 3) == 1 {
         let second = base::part(tables.bundle, range_of(tables.tests, i, 4));
-        return reader::get_by_joined_key(bytes, range.tags, range.count, first, second);
+        return reader::get_by_joined_key(entity, first, second);
     }
-    reader::get_by_key(bytes, range.tags, range.count, first)
+    reader::get_by_key(entity, first)
 }
 
 // What test i asks.
@@ -113,13 +104,10 @@ fn kind_of(tables: &Tables, i: usize) -> TestKind
 fn absent_fits(kind: TestKind) -> bool
     ensures { result ≡ absent_of kind }
 {
-    match kind {
-        TestKind::NotExists => true,
-        TestKind::False => true,
-        TestKind::TextNotEqual => true,
-        TestKind::NumberNotEqual => true,
-        _ => false,
-    }
+    matches!(
+        kind,
+        TestKind::NotExists | TestKind::False | TestKind::TextNotEqual | TestKind::NumberNotEqual
+    )
 }
 
 // Test i on a tag's value.
@@ -141,16 +129,11 @@ fn value_fits(tables: &Tables, i: usize, v: &[u8]) -> Result<bool, OutOfRange>
 }
 
 // Whether a value says yes.
+#[tactic(auto, using(crate::proofs::Tests::truths))]
 fn is_true(v: &[u8]) -> bool
     ensures { result ≡ true_value (some v.now) }
 {
-    if base::same_bytes(v, b"yes") {
-        return true;
-    }
-    if base::same_bytes(v, b"true") {
-        return true;
-    }
-    base::same_bytes(v, b"1")
+    matches!(v, b"yes" | b"true" | b"1")
 }
 
 // A numeric test of a kind and a bound on a tag's value.
@@ -159,10 +142,8 @@ fn number_fits(kind: TestKind, bound: f64, v: &[u8]) -> Result<bool, OutOfRange>
 {
     match tag_number::tag_number(v) {
         Ok(x) => Ok(compare(kind, x, bound)),
-        Err(e) => match e {
-            NumberError::Malformed => Ok(false),
-            NumberError::OutOfRange => Err(OutOfRange),
-        },
+        Err(NumberError::Malformed) => Ok(false),
+        Err(NumberError::OutOfRange) => Err(OutOfRange),
     }
 }
 

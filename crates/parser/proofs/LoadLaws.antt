@@ -3,9 +3,7 @@ use Prim.Native.Nat.{ℕ, ◌<◌}
 use native.Mathlib.Omega.{arith}
 use mathlib.Core.Path.{◌≡◌, refl, sym, ap, subst, ◌∙◌}
 use mathlib.Core.Bool.{false}
-use mathlib.Core.List.{List}
 use lib.Dec.{ltb}
-use lib.Ieee.{Float}
 use lib.ListN.{length}
 use borrow.Author.Tests.{ltb-true, ltb-false}
 use Rattle.base.specs.Bytes.{Bytes}
@@ -27,8 +25,7 @@ use Rattle.keep.specs.Encode.{Lengths, capacities, lent_of}
 use Rattle.keep.specs.Lent.{Lent, lent, none_yet}
 use Rattle.keep.specs.Source.{reading}
 use Rattle.input.specs.Source.{Spot, source}
-use Rattle.keep.specs.declared.Tally.{Tally}
-use Rattle.parser.specs.Load.{Held, held, zeros, held_in, counts_of, first_text, nothing_yet, sheet_at, loaded, load_of, BundleRead}
+use Rattle.parser.specs.Load.{Held, zeros, held_in, counts_of, first_text, sheet_at, loaded, load_of, BundleRead}
 use Rattle.parser.specs.declared.Counts.{Counts}
 use Rattle.sheets.specs.Sheets.{Parses, stopped, ended, SheetRead}
 use Rattle.std.specs.Prelude.{Result, Ok, Err}
@@ -36,32 +33,26 @@ use Rattle.base.specs.Option.{on_result}
 
 -- ---- six tables at once
 
-blanked :
-    (l : Lengths) (rs ss ts ps : List ℕ) (xs : List Float) (cs : List ℕ)
-    → held rs ss ts ps xs cs ≡ zeros l
-    → lent nothing_yet rs ss ts ps xs cs ≡ lent_of l empty
-blanked l rs ss ts ps xs cs e =
-    ap (λ (h : Held). lent none_yet h.rules h.selectors h.tests h.properties h.numbers h.colors) e ∙ sym (lent_empty l)
+blanked : (l : Lengths) (τ : Lent) → held_in τ ≡ zeros l → τ.tally ≡ none_yet → τ ≡ lent_of l empty
+blanked l τ e f =
+    ap (λ (h : Held). lent τ.tally h.rules h.selectors h.tests h.properties h.numbers h.colors) e
+    ∙ ap (λ n. let z = zeros l in lent n z.rules z.selectors z.tests z.properties z.numbers z.colors) f
+    ∙ sym (lent_empty l)
 
 -- ---- reading the bundle
 
-pub bad_read : (bundle : Bytes) (τ : Lent) (tables : Tally → Lent) {e : Refusal} → check_of bundle ≡ Err e → BundleRead bundle τ tables (Err e)
-bad_read bundle τ tables {e} p =
+pub bad_read : (bundle : Bytes) (τ τ' : Lent) {e : Refusal} → check_of bundle ≡ Err e → BundleRead bundle τ τ' (Err e)
+bad_read bundle τ τ' {e} p =
     (λ x q. let z : e ≡ x = cc in ap Err z, λ k q. different cc)
 
 pub texts_read :
-    (bundle : Bytes) (r : Range) (n : Tally) (rs ss ts ps : List ℕ) (xs : List Float) (cs : List ℕ) (tables : Tally → Lent) (p : Result Tally Refusal) {count : ℕ}
+    (bundle : Bytes) (r : Range) (τ τ' : Lent) (p : Result Unit Refusal) {count : ℕ}
     → check_of bundle ≡ Ok count
     → r ≡ first_text bundle
-    → n ≡ nothing_yet
-    → SheetRead bundle (source 0 r) 8 (lent n rs ss ts ps xs cs) tables p
-    → BundleRead bundle (lent nothing_yet rs ss ts ps xs cs) tables p
+    → SheetRead bundle (source 0 r) 8 τ τ' p
+    → BundleRead bundle τ τ' p
 unfolding load
-texts_read bundle r n rs ss ts ps xs cs tables p q e f h = (
-  λ x w. different cc,
-  λ k w. subst (λ n. SheetRead bundle (source 0 (first_text bundle)) 8 (lent n rs ss ts ps xs cs) tables p) f
-      (subst (λ r. SheetRead bundle (source 0 r) 8 (lent n rs ss ts ps xs cs) tables p) e h),
-)
+texts_read bundle r τ τ' p q e h = (λ x w. different cc, λ k w. subst (λ r. SheetRead bundle (source 0 r) 8 τ τ' p) e h)
 
 -- ---- a bundle that passes its check is short
 
@@ -78,62 +69,51 @@ short_bundle bundle e =
 -- ---- the answer and the tables
 
 stopped_alike :
-    (bundle : Bytes) (l : Lengths) (tables : Tally → Lent) (e : Refusal) {a : Answer Reading Spot Lent Refusal} {b : Answer Reading Spot Tables Refusal}
-    → Parses tables (Err e) a
+    (bundle : Bytes) (l : Lengths) (τ' : Lent) (e : Refusal) {a : Answer Reading Spot Lent Refusal} {b : Answer Reading Spot Tables Refusal}
+    → Parses τ' (Err e) a
     → Alike (Written bundle l) a b
     → (Err e, zeros l) ≡ loaded l b
 unfolding loaded
-stopped_alike bundle l tables e (stopped p) (both_refused w) = ap (λ e. (Err e, zeros l)) p
+stopped_alike bundle l τ' e (stopped p) (both_refused w) = ap (λ e. (Err e, zeros l)) p
 
 ended_alike :
-    (bundle : Bytes) (l : Lengths) (rs ss ts ps : List ℕ) (xs : List Float) (cs : List ℕ) (n : Tally) {a : Answer Reading Spot Lent Refusal} {b : Answer Reading Spot Tables Refusal}
-    → Parses (λ m. lent m rs ss ts ps xs cs) (Ok n) a
+    (bundle : Bytes) (l : Lengths) (τ' : Lent) {u : Unit} {a : Answer Reading Spot Lent Refusal} {b : Answer Reading Spot Tables Refusal}
+    → Parses τ' (Ok u) a
     → Alike (Written bundle l) a b
-    → (Ok (counts_of n), held rs ss ts ps xs cs) ≡ loaded l b
+    → (Ok (counts_of τ'.tally), held_in τ') ≡ loaded l b
 unfolding loaded
-ended_alike bundle l rs ss ts ps xs cs n ended (both_read w) = ap (λ (τ : Lent). (Ok (counts_of τ.tally), held_in τ)) w.is
+ended_alike bundle l τ' ended (both_read w) = ap (λ (τ : Lent). (Ok (counts_of τ.tally), held_in τ)) w.is
 
-module _ (bundle : Bytes) (l : Lengths) (rs ss ts ps : List ℕ) (xs : List Float) (cs : List ℕ) (z : held rs ss ts ps xs cs ≡ zeros l) where
-  pub load_stopped :
-      (tables : Tally → Lent) (e : Refusal) {r : Result Tally Refusal}
-      → BundleRead bundle (lent nothing_yet rs ss ts ps xs cs) tables r
-      → r ≡ Err e
-      → (Err e, zeros l) ≡ load_of bundle l
+module _ (bundle : Bytes) (l : Lengths) (τ τ' : Lent) (z : held_in τ ≡ zeros l) (y : τ.tally ≡ none_yet) {r : Result Unit Refusal} (h : BundleRead bundle τ τ' r) where
+  read_from : {x : Result Unit Refusal} {count : ℕ} → check_of bundle ≡ Ok count → r ≡ x → Parses τ' x (load (reading bundle) (sheet_at bundle) (lent_of l empty))
+  read_from {x = x} {count = k} w q =
+      subst (λ τ. Parses τ' x (load (reading bundle) (sheet_at bundle) τ)) (blanked l τ z y)
+      (subst (λ r. Parses τ' r (load (reading bundle) (sheet_at bundle) τ)) q (h.1 k w))
+
+  pub load_stopped : (e : Refusal) → r ≡ Err e → (Err e, zeros l) ≡ load_of bundle l
   unfolding load_of on_result
-  load_stopped tables e {r} h q = go (check_of bundle) refl
+  load_stopped e q = go (check_of bundle) refl
     where
       go : (x : Result ℕ Refusal) → check_of bundle ≡ x → (Err e, zeros l) ≡ on_result x (λ e. (Err e, zeros l)) (λ count. loaded l (load_into (reading bundle) (capacities l) (sheet_at bundle)))
       go (Err x) w =
-          let y : r ≡ Err x = h.0 x w in
+          let u : r ≡ Err x = h.0 x w in
           let v : e ≡ x = cc in
           ap (λ e. (Err e, zeros l)) v
-      go (Ok k) w =
-          stopped_alike bundle l tables e
-          (subst (λ τ. Parses tables (Err e) (load (reading bundle) (sheet_at bundle) τ)) (blanked l rs ss ts ps xs cs z)
-          (subst (λ r. Parses tables r (load (reading bundle) (sheet_at bundle) (lent nothing_yet rs ss ts ps xs cs))) q (h.1 k w)))
-          (loaded_alike bundle l (short_bundle bundle w) (sheet_at bundle))
+      go (Ok k) w = stopped_alike bundle l τ' e (read_from w q) (loaded_alike bundle l (short_bundle bundle w) (sheet_at bundle))
 
-  pub load_ended :
-      (rs' ss' ts' ps' : List ℕ) (xs' : List Float) (cs' : List ℕ) (n : Tally) {r : Result Tally Refusal}
-      → BundleRead bundle (lent nothing_yet rs ss ts ps xs cs) (λ m. lent m rs' ss' ts' ps' xs' cs') r
-      → r ≡ Ok n
-      → (Ok (counts_of n), held rs' ss' ts' ps' xs' cs') ≡ load_of bundle l
+  pub load_ended : {u : Unit} → r ≡ Ok u → (Ok (counts_of τ'.tally), held_in τ') ≡ load_of bundle l
   unfolding load_of on_result
-  load_ended rs' ss' ts' ps' xs' cs' n {r} h q = go (check_of bundle) refl
+  load_ended q = go (check_of bundle) refl
     where
       go :
           (x : Result ℕ Refusal)
           → check_of bundle ≡ x
-          → (Ok (counts_of n), held rs' ss' ts' ps' xs' cs')
+          → (Ok (counts_of τ'.tally), held_in τ')
           ≡ on_result x (λ e. (Err e, zeros l)) (λ count. loaded l (load_into (reading bundle) (capacities l) (sheet_at bundle)))
       go (Err x) w =
-          let y : r ≡ Err x = h.0 x w in
+          let v : r ≡ Err x = h.0 x w in
           different cc
-      go (Ok k) w =
-          ended_alike bundle l rs' ss' ts' ps' xs' cs' n
-          (subst (λ τ. Parses (λ m. lent m rs' ss' ts' ps' xs' cs') (Ok n) (load (reading bundle) (sheet_at bundle) τ)) (blanked l rs ss ts ps xs cs z)
-          (subst (λ r. Parses (λ m. lent m rs' ss' ts' ps' xs' cs') r (load (reading bundle) (sheet_at bundle) (lent nothing_yet rs ss ts ps xs cs))) q (h.1 k w)))
-          (loaded_alike bundle l (short_bundle bundle w) (sheet_at bundle))
+      go (Ok k) w = ended_alike bundle l τ' (read_from w q) (loaded_alike bundle l (short_bundle bundle w) (sheet_at bundle))
 
 -- tables that are zeroed again
 pub again_zero :

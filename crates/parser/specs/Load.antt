@@ -13,7 +13,7 @@ use Rattle.grammar.specs.Input.{Answer, refused, read}
 use Rattle.grammar.specs.Reader.{load}
 use Rattle.grammar.specs.Reading.{Reading}
 use Rattle.keep.specs.Encode.{Lengths, capacities, tally_of, lent_of}
-use Rattle.keep.specs.Lent.{Lent, range, none_yet}
+use Rattle.keep.specs.Lent.{Lent, range}
 use Rattle.keep.specs.Source.{reading}
 use Rattle.input.specs.Source.{Spot, spot, source}
 use Rattle.keep.specs.declared.Store.{Store}
@@ -74,11 +74,8 @@ load_of bundle l =
 
 -- ---- inside a load
 
-abbrev pub nothing_yet : Tally
-nothing_yet = none_yet
-
--- from the tables τ to the others
-abbrev pub BundleRead : Bytes → Lent → (Tally → Lent) → Result Tally Refusal → Type 0
-BundleRead bundle τ tables r =
+-- from the tables τ to the tables τ'
+abbrev pub BundleRead : Bytes → Lent → Lent → Result Unit Refusal → Type 0
+BundleRead bundle τ τ' r =
     ((e : Refusal) → check_of bundle ≡ Err e → r ≡ Err e)
-    × ((count : ℕ) → check_of bundle ≡ Ok count → Parses tables r (load (reading bundle) (sheet_at bundle) τ))
+    × ((count : ℕ) → check_of bundle ≡ Ok count → Parses τ' r (load (reading bundle) (sheet_at bundle) τ))

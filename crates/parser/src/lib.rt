@@ -3,8 +3,8 @@
 
 ghost use Rattle.std.specs.Prelude.{◌≡◌, length};
 ghost use Rattle.keep.specs.Encode.{lengths, lengths_by};
-ghost use Rattle.keep.specs.Lent.{lent_in, lends};
-ghost use Rattle.parser.specs.Load.{held, zeros, held_by, counts_of, first_text, nothing_yet, BundleRead, load_of};
+ghost use Rattle.keep.specs.Lent.{lent_in, lends, none_yet};
+ghost use Rattle.parser.specs.Load.{held, zeros, held_by, counts_of, first_text, BundleRead, load_of};
 
 use base::Range;
 use base::refusal::Refusal;
@@ -73,6 +73,7 @@ pub fn load(
         properties,
         numbers,
         colors,
+        tally: Tally::default(),
     };
     fill(bundle, &mut store)
 }
@@ -88,13 +89,14 @@ fn fill(bundle: &[u8], store: &mut Store<'_>) -> Result<Counts, Refusal>
             blank(store);
             Err(e)
         }
-        Ok(n) => Ok(Counts::from(n)),
+        Ok(()) => Ok(Counts::from(store.tally)),
     }
 }
 
-// Every table is zero.
+// Every table is zero, and no entry is counted.
 pub fn blank(store: &mut Store<'_>)
     ensures zero { held_by store.new ≡ zeros (lengths_by store.old) }
+    ensures tally { store.new.tally ≡ none_yet }
     ensures lends { lends store.new ≡ lends store.old }
 {
     store.rules.fill(0);
@@ -103,11 +105,12 @@ pub fn blank(store: &mut Store<'_>)
     store.properties.fill(0);
     store.numbers.fill(0.0);
     store.colors.fill(0);
+    store.tally = Tally::default();
 }
 
 // Checks the bundle, and reads its first text at depth 8.
-fn read_bundle(bundle: &[u8], store: &mut Store<'_>) -> Result<Tally, Refusal>
-    ensures read { BundleRead bundle.now (lent_in nothing_yet store.old) (λ m. lent_in m store.new) result }
+fn read_bundle(bundle: &[u8], store: &mut Store<'_>) -> Result<(), Refusal>
+    ensures read { BundleRead bundle.now (lent_in store.old) (lent_in store.new) result }
     ensures lends { lends store.new ≡ lends store.old }
 {
     let _ = bundle::check_bundle(bundle)?;
@@ -118,7 +121,7 @@ fn read_bundle(bundle: &[u8], store: &mut Store<'_>) -> Result<Tally, Refusal>
             range: first_text(bundle),
         },
     };
-    parse(text, 8, none_yet(), store)
+    parse(text, 8, store)
 }
 
 // Where the sheet stands in the bundle.
@@ -128,22 +131,5 @@ fn first_text(bundle: &[u8]) -> Range
     match bundle::text_at(bundle, 0) {
         None => Range { from: 0, to: 0 },
         Some((_, text)) => text,
-    }
-}
-
-fn none_yet() -> Tally
-    ensures { result ≡ nothing_yet }
-{
-    Tally {
-        rules: 0,
-        selectors: 0,
-        tests: 0,
-        properties: 0,
-        numbers: 0,
-        colors: 0,
-        selector: 0,
-        test: 0,
-        property: 0,
-        number: 0,
     }
 }

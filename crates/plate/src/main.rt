@@ -8,6 +8,7 @@ use line::{layer_line, property_count, property_line, refusal_line};
 use printing::Buffers;
 use std::io;
 use std::io::Write;
+use table::Tables;
 
 fn main(rt: HostRuntime) -> io::Result<()> {
     let mut input = input_buffer();
@@ -37,37 +38,38 @@ fn print_plate<W: Write>(out: &mut W, input: &[u8]) -> io::Result<()> {
             let n = refusal_line(e, &mut line);
             out.write_all(first(&line, n))
         }
-        Ok((b, k)) => print_layers(out, base::part(input, b), &buffers, k, &mut line),
+        Ok((b, k)) => {
+            let tables = buffers.tables(base::part(input, b));
+            print_layers(out, &tables, &buffers.maps, k, &mut line)
+        }
     }
 }
 
 fn print_layers<W: Write>(
     out: &mut W,
-    bundle: &[u8],
-    buffers: &Buffers,
+    tables: &Tables,
+    maps: &[u32],
     k: usize,
     line: &mut [u8],
 ) -> io::Result<()> {
     for i in 0..k {
-        let n = layer_line(bundle, &buffers.selectors[..], &buffers.maps[..], i, line);
+        let n = layer_line(tables, maps, i, line);
         out.write_all(first(line, n))?;
-        print_properties(out, bundle, buffers, i, line)?;
+        print_properties(out, tables, maps, i, line)?;
     }
     Ok(())
 }
 
 fn print_properties<W: Write>(
     out: &mut W,
-    bundle: &[u8],
-    buffers: &Buffers,
+    tables: &Tables,
+    maps: &[u32],
     i: usize,
     line: &mut [u8],
 ) -> io::Result<()> {
-    let properties = &buffers.properties[..];
-    let maps = &buffers.maps[..];
     let count = property_count(maps, i) as usize;
     for j in 0..count {
-        let n = property_line(bundle, properties, maps, i, j, line);
+        let n = property_line(tables, maps, i, j, line);
         out.write_all(first(line, n))?;
     }
     Ok(())

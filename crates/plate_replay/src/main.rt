@@ -8,6 +8,7 @@ use base::{Range, part};
 use printing::Buffers;
 use std::io;
 use stdio::cases::{piece_at, replay};
+use table::Tables;
 
 fn main(rt: HostRuntime) -> io::Result<()> {
     replay(&mut rt.stdin(), &mut rt.stdout(), case_at)
@@ -45,42 +46,43 @@ fn end_of(input: &[u8], output: &[u8]) -> Option<usize> {
             let n = line::refusal_line(e, &mut line);
             behind(output, 0, part(&line, Range { from: 0, to: n }))
         }
-        Ok((b, layers)) => layers_behind(part(input, b), &buffers, layers, output, &mut line),
+        Ok((b, layers)) => {
+            let tables = buffers.tables(part(input, b));
+            layers_behind(&tables, &buffers.maps, layers, output, &mut line)
+        }
     }
 }
 
 // The place behind the layers' lines, where the output begins with them. A line is written into what is lent.
 fn layers_behind(
-    bundle: &[u8],
-    buffers: &Buffers,
+    tables: &Tables,
+    maps: &[u32],
     layers: usize,
     output: &[u8],
     line: &mut [u8],
 ) -> Option<usize> {
     let mut at: usize = 0;
     for i in 0..layers {
-        let n = line::layer_line(bundle, &buffers.selectors[..], &buffers.maps[..], i, line);
+        let n = line::layer_line(tables, maps, i, line);
         at = behind(output, at, part(line, Range { from: 0, to: n }))?;
-        at = properties_behind(bundle, buffers, i, output, at, line)?;
+        at = properties_behind(tables, maps, i, output, at, line)?;
     }
     Some(at)
 }
 
 // The place behind the lines of a layer's properties, where the output has them at a place.
 fn properties_behind(
-    bundle: &[u8],
-    buffers: &Buffers,
+    tables: &Tables,
+    maps: &[u32],
     i: usize,
     output: &[u8],
     from: usize,
     line: &mut [u8],
 ) -> Option<usize> {
-    let properties = &buffers.properties[..];
-    let maps = &buffers.maps[..];
     let mut at = from;
     let count = line::property_count(maps, i) as usize;
     for j in 0..count {
-        let n = line::property_line(bundle, properties, maps, i, j, line);
+        let n = line::property_line(tables, maps, i, j, line);
         at = behind(output, at, part(line, Range { from: 0, to: n }))?;
     }
     Some(at)

@@ -52,14 +52,15 @@ module _ (bundle entity : Bytes) (zoom : ℕ) (b : Range) (l : Lengths) (z : l �
   load_is r k h e m = ap (load_of bundle) (sym z) ∙ via_with e m
 
   pub styled_not :
-      (r : Result Counts Refusal) (h : Held) (e : Refusal) (t : List ℕ)
+      (r : Result Counts Refusal) (h : Held) (e : Refusal) (t : List ℕ) (z : Result (Range × ℕ) Refusal)
       → (r, h) ≡ load_of bundle l
       → r ≡ Err e
       → t ≡ no_rows
-      → plate (Err e) h t ≡ loaded_plate zoom b bundle entity (load_of bundle room)
+      → z ≡ Err e
+      → plate z h t ≡ loaded_plate zoom b bundle entity (load_of bundle room)
   unfolding loaded_plate
-  styled_not r h e t q m w =
-      ap (λ (t : List ℕ). plate (Err e) h t) w
+  styled_not r h e t z q m w y =
+      ap₂ (λ (z : Result (Range × ℕ) Refusal) (t : List ℕ). plate z h t) y w
       ∙ sym (ap (loaded_plate zoom b bundle entity) (load_is r (Err e) h q m))
 
   module _ (r : Result Counts Refusal) (n : Counts) (five : Counts') (rs ss ts ps : List ℕ) (xs : List Float) (cs : List ℕ) where

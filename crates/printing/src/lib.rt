@@ -8,7 +8,7 @@ ghost use Rattle.printing.specs.Plate.{plate_in, empty, room, loaded_plate, plat
 
 use base::Range;
 use base::refusal::{BUNDLE_LAYOUT, Refusal};
-use keep::Store;
+use keep::{Store, Tally};
 use table::Tables;
 use valid::Counts;
 
@@ -49,8 +49,28 @@ impl Buffers {
             properties: &mut self.properties,
             numbers: &mut self.numbers,
             colors: &mut self.colors,
+            tally: Tally::default(),
         });
         self.maps.fill(0);
+    }
+
+    // The tables, beside the bundle that they were loaded from.
+    pub fn tables<'a>(&'a self, bundle: &'a [u8]) -> Tables<'a>
+        ensures bundle { result.bundle.now ≡ bundle.now }
+        ensures rules { result.rules.now ≡ self.now.rules }
+        ensures selectors { result.selectors.now ≡ self.now.selectors }
+        ensures tests { result.tests.now ≡ self.now.tests }
+        ensures properties { result.properties.now ≡ self.now.properties }
+        ensures numbers { result.numbers.now ≡ self.now.numbers }
+    {
+        Tables {
+            bundle,
+            rules: &self.rules,
+            selectors: &self.selectors,
+            tests: &self.tests,
+            properties: &self.properties,
+            numbers: &self.numbers,
+        }
     }
 }
 
@@ -102,7 +122,8 @@ fn styled(
 ) -> Result<(Range, usize), Refusal>
     ensures { plate_in result buffers.new ≡ loaded_plate zoom b bundle.now entity.now (load_of bundle.now room) }
 {
-    let loaded = parser::load(
+    buffers.maps.fill(0);
+    let n = parser::load(
         bundle,
         &mut buffers.rules,
         &mut buffers.selectors,
@@ -110,23 +131,16 @@ fn styled(
         &mut buffers.properties,
         &mut buffers.numbers,
         &mut buffers.colors,
-    );
-    match loaded {
-        Err(e) => {
-            buffers.maps.fill(0);
-            Err(e)
-        }
-        Ok(n) => {
-            let tables = Tables {
-                bundle,
-                rules: &buffers.rules[..],
-                selectors: &buffers.selectors[..],
-                tests: &buffers.tests[..],
-                properties: &buffers.properties[..],
-                numbers: &buffers.numbers[..],
-            };
-            let k = walk::property_maps(&tables, Counts::from(n), zoom, entity, &mut buffers.maps)?;
-            Ok((b, k))
-        }
-    }
+    )?;
+    // Not by `tables`, which would lend the maps too.
+    let tables = Tables {
+        bundle,
+        rules: &buffers.rules[..],
+        selectors: &buffers.selectors[..],
+        tests: &buffers.tests[..],
+        properties: &buffers.properties[..],
+        numbers: &buffers.numbers[..],
+    };
+    let k = walk::property_maps(&tables, Counts::from(n), zoom, entity, &mut buffers.maps)?;
+    Ok((b, k))
 }

@@ -10,6 +10,7 @@ use Rattle.base.specs.Bytes.{Bytes, ascii, same}
 use Rattle.base.specs.declared.refusal.Refusal.{Refusal}
 use Rattle.cursor.specs.declared.Cursor.{Cursor}
 use Rattle.token_kind.specs.declared.Token.{Token}
+use Rattle.token_kind.specs.declared.Token.TheVariants.{SemiColon}
 use Rattle.grammar.specs.Token.{Sign, Token as Token', import, identifier, string, color_ref, number, zoom_range, color, sign, left_paren, right_paren, semi_colon}
 use Rattle.grammar.specs.View.{is_sign, on_sign, on_identifier, on_string, on_number}
 use Rattle.grammar.specs.Reading.{Value, width_delta}
@@ -18,7 +19,7 @@ use Rattle.grammar.specs.Reader.{want, want_word, want_string, suffix, width_inc
 use Rattle.keep.specs.Lent.{Lent}
 use Rattle.keep.specs.Source.{reading}
 use Rattle.input.specs.Source.{Spot, spot}
-use Rattle.input.specs.Text.{token_of, left, mandatory_of, refusal_at}
+use Rattle.input.specs.Text.{token_of, same_token, left, mandatory_of, refusal_at}
 use Rattle.input.specs.declared.Place.{Place}
 use Rattle.input.specs.declared.Source.{Source}
 use Rattle.properties.specs.Eval.{no_number, sign_form, word_form, prop_form, width_form, last_form, form_next, form_all, form_result, Forms, unformed, formed, FormsFrom}
@@ -214,6 +215,14 @@ form_is =
     behind_1 left_paren λ t. refl
 
 -- ---- the tokens up to the semicolon
+
+pub semicolon_is : (bundle : Bytes) (t : Token) {b : Bool} → b ≡ same_token t SemiColon → is_sign semi_colon (token_of bundle t) ≡ b
+unfolding is_sign token_of
+semicolon_is bundle t e = same t ∙ sym e
+  where
+    same : (t : Token) → is_sign semi_colon (token_of bundle t) ≡ same_token t SemiColon
+    same SemiColon = refl
+    same t = refl
 
 module _ (bundle : Bytes) (s : Source) (b : ℕ) where
   consed :

@@ -15,135 +15,120 @@ use Rattle.table.specs.Value.{range_at, color_at}
 use Rattle.table.specs.declared.PropertyValue.{PropertyValue}
 use Rattle.grammar.specs.Reading.{Value, property, color_named}
 use Rattle.grammar.specs.Input.{property_entry, Answer, refused, on_option, after, keep, read}
-use Rattle.keep.specs.Lent.{Lent, lent, value_shown, fresh_numbers, keep_property_of, taken, put_entry, colors_from, place_from}
+use Rattle.keep.specs.Lent.{Lent, value_shown, fresh_numbers, property_kept, put_entry, colors_from, place_from}
+use Rattle.keep.proofs.KeepLaws.{is_full, is_put}
 use Rattle.keep.specs.Source.{reading}
 use Rattle.input.specs.Source.{Spot, spot}
 use Rattle.input.specs.Text.{name_in, left, refusal_at, reached_at}
 use Rattle.input.specs.declared.Source.{Source}
-use Rattle.keep.specs.declared.Tally.{Tally}
 use Rattle.keep.proofs.Laws.{option_none, option_some}
 use Rattle.keep.specs.Answers.{Reads, refuses, done}
-use Rattle.properties.specs.Answers.{color_in, Values, bad_value, good_value, Leads, stops, leads, Nexts, no_next, at_end, a_next}
+use Rattle.properties.specs.Answers.{Values, bad_value, good_value, Leads, stops, leads, Nexts, no_next, at_end, a_next}
 use Rattle.std.specs.Prelude.{Option, Some, None, Result, Ok, Err}
-use Rattle.base.specs.Option.{on_option as on_option', option_none as option_none', option_some as option_some', with_option}
-use Rattle.base.proofs.Options.{by_option, none_some, ok2_first, ok2_second, ok3_first, ok3_second, ok3_third}
+use Rattle.base.proofs.Options.{none_some, ok2_first, ok2_second}
 
 -- ---- what a call has read leads on
 
-module _ {A B : Type 0} (Q : Answer B Spot Lent Refusal → Type 0) {bundle : Bytes} {s : Source} {b : ℕ} {tables : Tally → Lent} {r : Result (Cursor × Tally) Refusal} {a : Answer A Spot Lent Refusal} (k : A → Spot → Lent → Answer B Spot Lent Refusal) (h : Reads bundle s b tables r a) where
+module _ {A B : Type 0} (Q : Answer B Spot Lent Refusal → Type 0) {bundle : Bytes} {s : Source} {b : ℕ} {then : Lent} {r : Result Cursor Refusal} {a : Answer A Spot Lent Refusal} (k : A → Spot → Lent → Answer B Spot Lent Refusal) (h : Reads bundle s b then r a) where
   pub after_refused : {e : Refusal} → r ≡ Err e → ((e' : Refusal) (τ : Lent) → e ≡ e' → Q (refused e' τ)) → Q (after a k)
   unfolding after
   after_refused {e} = go h
     where
-      go : {r : Result (Cursor × Tally) Refusal} {a : Answer A Spot Lent Refusal} → Reads bundle s b tables r a → r ≡ Err e → ((e' : Refusal) (τ : Lent) → e ≡ e' → Q (refused e' τ)) → Q (after a k)
+      go : {r : Result Cursor Refusal} {a : Answer A Spot Lent Refusal} → Reads bundle s b then r a → r ≡ Err e → ((e' : Refusal) (τ : Lent) → e ≡ e' → Q (refused e' τ)) → Q (after a k)
       go (refuses {e = x} {e' = y} {τ = τ} p) q f = let z : x ≡ e = cc in f y τ (sym z ∙ p)
       go (done d l) q f = different cc
 
-  pub after_done : {d : Cursor} {n : Tally} → r ≡ Ok (d, n) → ((x : A) → left bundle s d ≤ b → Q (k x (spot s d) (tables n))) → Q (after a k)
+  pub after_done : {d : Cursor} → r ≡ Ok d → ((x : A) → left bundle s d ≤ b → Q (k x (spot s d) then)) → Q (after a k)
   unfolding after
-  after_done {d} {n} = go h
+  after_done {d} = go h
     where
-      go : {r : Result (Cursor × Tally) Refusal} {a : Answer A Spot Lent Refusal} → Reads bundle s b tables r a → r ≡ Ok (d, n) → ((x : A) → left bundle s d ≤ b → Q (k x (spot s d) (tables n))) → Q (after a k)
+      go : {r : Result Cursor Refusal} {a : Answer A Spot Lent Refusal} → Reads bundle s b then r a → r ≡ Ok d → ((x : A) → left bundle s d ≤ b → Q (k x (spot s d) then)) → Q (after a k)
       go (refuses p) q f = different cc
-      go (done {x = x} e {n = m} l) q f =
-          let z : d ≡ e = sym (ok2_first q) in
-          let w : n ≡ m = sym (ok2_second q) in
-          subst (λ m. Q (k x (spot s e) (tables m))) w
-          (subst (λ e. Q (k x (spot s e) (tables n))) z (f x (subst (λ e. left bundle s e ≤ b) (sym z) l)))
+      go (done {x = x} e l) q f =
+          let z : d ≡ e = cc in
+          subst (λ e. Q (k x (spot s e) then)) z (f x (subst (λ e. left bundle s e ≤ b) (sym z) l))
 
-module _ {B : Type 0} (Q : Answer B Spot Lent Refusal → Type 0) {bundle : Bytes} {s : Source} {b : ℕ} {tables : Tally → Lent} {r : Result (PropertyValue × Cursor × Tally) Refusal} {a : Answer Value Spot Lent Refusal} (k : Value → Spot → Lent → Answer B Spot Lent Refusal) (h : Values bundle s b tables r a) where
+module _ {B : Type 0} (Q : Answer B Spot Lent Refusal → Type 0) {bundle : Bytes} {s : Source} {b : ℕ} {then : Lent} {r : Result (PropertyValue × Cursor) Refusal} {a : Answer Value Spot Lent Refusal} (k : Value → Spot → Lent → Answer B Spot Lent Refusal) (h : Values bundle s b then r a) where
   pub after_bad : {e : Refusal} → r ≡ Err e → ((e' : Refusal) (τ : Lent) → e ≡ e' → Q (refused e' τ)) → Q (after a k)
   unfolding after
   after_bad {e} = go h
     where
-      go : {r : Result (PropertyValue × Cursor × Tally) Refusal} {a : Answer Value Spot Lent Refusal} → Values bundle s b tables r a → r ≡ Err e → ((e' : Refusal) (τ : Lent) → e ≡ e' → Q (refused e' τ)) → Q (after a k)
+      go : {r : Result (PropertyValue × Cursor) Refusal} {a : Answer Value Spot Lent Refusal} → Values bundle s b then r a → r ≡ Err e → ((e' : Refusal) (τ : Lent) → e ≡ e' → Q (refused e' τ)) → Q (after a k)
       go (bad_value {e = x} {e' = y} {τ = τ} p) q f = let z : x ≡ e = cc in f y τ (sym z ∙ p)
       go (good_value v d l p) q f = different cc
 
   pub after_good :
-      {v : PropertyValue} {d : Cursor} {n : Tally}
-      → r ≡ Ok (v, d, n)
-      → ((x : Value) → left bundle s d ≤ b → value_shown x (fresh_numbers n) ≡ v → Q (k x (spot s d) (tables n)))
+      {v : PropertyValue} {d : Cursor}
+      → r ≡ Ok (v, d)
+      → ((x : Value) → left bundle s d ≤ b → value_shown x (fresh_numbers then.tally) ≡ v → Q (k x (spot s d) then))
       → Q (after a k)
   unfolding after
-  after_good {v} {d} {n} = go h
+  after_good {v} {d} = go h
     where
       go :
-          {r : Result (PropertyValue × Cursor × Tally) Refusal} {a : Answer Value Spot Lent Refusal}
-          → Values bundle s b tables r a
-          → r ≡ Ok (v, d, n)
-          → ((x : Value) → left bundle s d ≤ b → value_shown x (fresh_numbers n) ≡ v → Q (k x (spot s d) (tables n)))
+          {r : Result (PropertyValue × Cursor) Refusal} {a : Answer Value Spot Lent Refusal}
+          → Values bundle s b then r a
+          → r ≡ Ok (v, d)
+          → ((x : Value) → left bundle s d ≤ b → value_shown x (fresh_numbers then.tally) ≡ v → Q (k x (spot s d) then))
           → Q (after a k)
       go (bad_value p) q f = different cc
-      go (good_value x e {n = m} {p = p} l w) q f =
-          let z : d ≡ e = sym (ok3_second q) in
-          let u : n ≡ m = sym (ok3_third q) in
-          let t : p ≡ v = ok3_first q in
-          subst (λ m. Q (k x (spot s e) (tables m))) u
-          (subst (λ e. Q (k x (spot s e) (tables n))) z
-          (f x (subst (λ e. left bundle s e ≤ b) (sym z) l) (subst (λ m. value_shown x (fresh_numbers m) ≡ v) (sym u) (w ∙ t))))
+      go (good_value x e l w) q f =
+          let z : d ≡ e = sym (ok2_second q) in
+          subst (λ e. Q (k x (spot s e) then)) z (f x (subst (λ e. left bundle s e ≤ b) (sym z) l) (w ∙ ok2_first q))
 
 pub widen_value :
-    {bundle : Bytes} {s : Source} {b b' : ℕ} {tables : Tally → Lent} {r : Result (PropertyValue × Cursor × Tally) Refusal} {a : Answer Value Spot Lent Refusal}
+    {bundle : Bytes} {s : Source} {b b' : ℕ} {then : Lent} {r : Result (PropertyValue × Cursor) Refusal} {a : Answer Value Spot Lent Refusal}
     → b ≤ b'
-    → Values bundle s b tables r a
-    → Values bundle s b' tables r a
+    → Values bundle s b then r a
+    → Values bundle s b' then r a
 widen_value h (bad_value e) = bad_value e
 widen_value h (good_value v d l p) = good_value v d (omega arith) p
 
 pub widen_leads :
-    {A X : Type 0} {bundle : Bytes} {s : Source} {b b' : ℕ} {tables : Tally → Lent} {K : X → Spot → Lent → Answer A Spot Lent Refusal} {r : Result (Cursor × Tally) Refusal} {a : Answer A Spot Lent Refusal}
+    {A X : Type 0} {bundle : Bytes} {s : Source} {b b' : ℕ} {then : Lent} {K : X → Spot → Lent → Answer A Spot Lent Refusal} {r : Result Cursor Refusal} {a : Answer A Spot Lent Refusal}
     → b ≤ b'
-    → Leads bundle s b tables K r a
-    → Leads bundle s b' tables K r a
+    → Leads bundle s b then K r a
+    → Leads bundle s b' then K r a
 widen_leads h (stops e) = stops e
 widen_leads h (leads x d l) = leads x d (omega arith)
 
-module _ {A X : Type 0} (Q : Answer A Spot Lent Refusal → Type 0) {bundle : Bytes} {s : Source} {b : ℕ} {tables : Tally → Lent} {K : X → Spot → Lent → Answer A Spot Lent Refusal} {r : Result (Cursor × Tally) Refusal} {a : Answer A Spot Lent Refusal} (h : Leads bundle s b tables K r a) where
+module _ {A X : Type 0} (Q : Answer A Spot Lent Refusal → Type 0) {bundle : Bytes} {s : Source} {b : ℕ} {then : Lent} {K : X → Spot → Lent → Answer A Spot Lent Refusal} {r : Result Cursor Refusal} {a : Answer A Spot Lent Refusal} (h : Leads bundle s b then K r a) where
   pub lead_stop : {e : Refusal} → r ≡ Err e → ((e' : Refusal) (τ : Lent) → e ≡ e' → Q (refused e' τ)) → Q a
   lead_stop {e} = go h
     where
-      go : {r : Result (Cursor × Tally) Refusal} {a : Answer A Spot Lent Refusal} → Leads bundle s b tables K r a → r ≡ Err e → ((e' : Refusal) (τ : Lent) → e ≡ e' → Q (refused e' τ)) → Q a
+      go : {r : Result Cursor Refusal} {a : Answer A Spot Lent Refusal} → Leads bundle s b then K r a → r ≡ Err e → ((e' : Refusal) (τ : Lent) → e ≡ e' → Q (refused e' τ)) → Q a
       go (stops {e = x} {e' = y} {τ = τ} p) q f = let z : x ≡ e = cc in f y τ (sym z ∙ p)
       go (leads x d l) q f = different cc
 
-  pub lead_on : {d : Cursor} {n : Tally} → r ≡ Ok (d, n) → ((x : X) → left bundle s d ≤ b → Q (K x (spot s d) (tables n))) → Q a
-  lead_on {d} {n} = go h
+  pub lead_on : {d : Cursor} → r ≡ Ok d → ((x : X) → left bundle s d ≤ b → Q (K x (spot s d) then)) → Q a
+  lead_on {d} = go h
     where
-      go : {r : Result (Cursor × Tally) Refusal} {a : Answer A Spot Lent Refusal} → Leads bundle s b tables K r a → r ≡ Ok (d, n) → ((x : X) → left bundle s d ≤ b → Q (K x (spot s d) (tables n))) → Q a
+      go : {r : Result Cursor Refusal} {a : Answer A Spot Lent Refusal} → Leads bundle s b then K r a → r ≡ Ok d → ((x : X) → left bundle s d ≤ b → Q (K x (spot s d) then)) → Q a
       go (stops p) q f = different cc
-      go (leads x e {n = m} l) q f =
-          let z : d ≡ e = sym (ok2_first q) in
-          let w : n ≡ m = sym (ok2_second q) in
-          subst (λ m. Q (K x (spot s e) (tables m))) w
-          (subst (λ e. Q (K x (spot s e) (tables n))) z (f x (subst (λ e. left bundle s e ≤ b) (sym z) l)))
+      go (leads x e l) q f =
+          let z : d ≡ e = cc in
+          subst (λ e. Q (K x (spot s e) then)) z (f x (subst (λ e. left bundle s e ≤ b) (sym z) l))
 
 -- ---- storing a property
 
 module _ {A : Type 0} (Q : Answer A Spot Lent Refusal → Type 0) (bundle : Bytes) (s : Source) where
   pub no_room_property :
-      (name : Range) (x : Value) (p : PropertyValue) (c : Cursor) (τ : Lent) (k : Lent → Answer A Spot Lent Refusal) {u : List ℕ}
+      (name : Range) (x : Value) (p : PropertyValue) (c : Cursor) (τ : Lent) (k : Lent → Answer A Spot Lent Refusal) {τ' : Lent}
       → value_shown x (fresh_numbers τ.tally) ≡ p
-      → keep_property_of τ.tally τ.properties name p ≡ (None, u)
+      → property_kept τ name p ≡ (None, τ')
       → Q (refused (refusal_at 20 4 (reached_at s c)) τ)
       → Q (keep (reading bundle) (property_entry (property (name_in bundle name) x)) (spot s c) τ k)
-  unfolding put_entry taken with_option on_option on_option'
-  no_room_property name x p c τ k r e q =
-      option_none Q _ _ k
-      (ap (λ y. taken y λ n t. lent n τ.rules τ.selectors τ.tests t τ.numbers τ.colors) (ap (keep_property_of τ.tally τ.properties name) r ∙ e))
-      q
+  unfolding put_entry property_kept
+  no_room_property name x p c τ k r e q = option_none Q _ _ k (is_full _ _ _ (ap (property_kept τ name) r ∙ e)) q
 
   pub room_property :
-      (name : Range) (x : Value) (p : PropertyValue) (c : Cursor) (τ : Lent) (k : Lent → Answer A Spot Lent Refusal) {n : Tally} {u : List ℕ}
+      (name : Range) (x : Value) (p : PropertyValue) (c : Cursor) (τ : Lent) (k : Lent → Answer A Spot Lent Refusal) {y : Unit} {τ' : Lent}
       → value_shown x (fresh_numbers τ.tally) ≡ p
-      → keep_property_of τ.tally τ.properties name p ≡ (Some n, u)
-      → Q (k (lent n τ.rules τ.selectors τ.tests u τ.numbers τ.colors))
+      → property_kept τ name p ≡ (Some y, τ')
+      → Q (k τ')
       → Q (keep (reading bundle) (property_entry (property (name_in bundle name) x)) (spot s c) τ k)
-  unfolding put_entry taken with_option on_option on_option'
-  room_property name x p c τ k r e q =
-      option_some Q _ _ k
-      (ap (λ y. taken y λ n t. lent n τ.rules τ.selectors τ.tests t τ.numbers τ.colors) (ap (keep_property_of τ.tally τ.properties name) r ∙ e))
-      q
+  unfolding put_entry property_kept
+  room_property name x p c τ k r e q = option_some Q _ _ k (is_put _ _ _ (ap (property_kept τ name) r ∙ e)) q
 
 -- ---- a reference to a colour
 
@@ -177,28 +162,18 @@ module _ (bundle : Bytes) (t : List ℕ) (name : Range) where
   module _ {A : Type 0} (Q : Answer A Spot Lent Refusal → Type 0) (n : ℕ) where
     pub no_reference :
         (f : Answer A Spot Lent Refusal) (k : _ → Answer A Spot Lent Refusal)
-        → color_in bundle (within name bundle) t n ≡ None
+        → place_from bundle (within name bundle) t 0 n ≡ None
         → Q f
         → Q (on_option (color_named (name_in bundle name) (colors_from bundle t 0 n)) f k)
-    unfolding color_in
-    no_reference f k e q =
-        by_option (place_from bundle (within name bundle) t 0 n)
-        (λ h. option_none Q _ f k (no_color_from 0 n h) q)
-        (λ i h. none_some (sym e ∙ sym (option_some' _ _ _ h refl)))
+    no_reference f k e q = option_none Q _ f k (no_color_from 0 n e) q
 
     pub reference :
-        (f : Answer A Spot Lent Refusal) (k : _ → Answer A Spot Lent Refusal) {x : Color}
-        → color_in bundle (within name bundle) t n ≡ Some x
+        (f : Answer A Spot Lent Refusal) (k : _ → Answer A Spot Lent Refusal) {i : ℕ} {x : Color}
+        → place_from bundle (within name bundle) t 0 n ≡ Some i
+        → x ≡ color_at t i
         → Q (k x)
         → Q (on_option (color_named (name_in bundle name) (colors_from bundle t 0 n)) f k)
-    unfolding color_in
-    reference f k {x} e q =
-        by_option (place_from bundle (within name bundle) t 0 n)
-        (λ h. none_some (option_none' _ _ _ h refl ∙ e))
-        (λ i h.
-        let p = option_some' _ _ _ h refl ∙ e in
-        let z : color_at t i ≡ x = cc in
-        option_some Q _ f k (color_from 0 n h ∙ ap some z) q)
+    reference f k e p q = option_some Q _ f k (color_from 0 n e ∙ ap some (sym p)) q
 
 -- ---- the next of several, or their end
 
@@ -236,9 +211,9 @@ module _ {A X : Type 0} {bundle : Bytes} {s : Source} {bound : ℕ} {K : Spot �
 
 -- what is read behind a number, with the number before it
 pub after_reads :
-    {A B : Type 0} {bundle : Bytes} {s : Source} {b : ℕ} {tables : Tally → Lent} {r : Result (Cursor × Tally) Refusal} (a : Answer A Spot Lent Refusal) (f : A → B)
-    → Reads bundle s b tables r a
-    → Reads bundle s b tables r (after a λ x c τ. read (f x) c τ)
+    {A B : Type 0} {bundle : Bytes} {s : Source} {b : ℕ} {then : Lent} {r : Result Cursor Refusal} (a : Answer A Spot Lent Refusal) (f : A → B)
+    → Reads bundle s b then r a
+    → Reads bundle s b then r (after a λ x c τ. read (f x) c τ)
 unfolding after
 after_reads a f (refuses e) = refuses e
 after_reads a f (done d l) = done d l

@@ -14,11 +14,10 @@ use Rattle.grammar.specs.Reader.{tokens_to_semi_colon, keep_delta, read_simple_e
 use Rattle.keep.specs.Lent.{Lent}
 use Rattle.keep.specs.Source.{reading}
 use Rattle.input.specs.Source.{Spot, spot}
-use Rattle.properties.specs.Answers.{at_numbers, Values}
+use Rattle.properties.specs.Answers.{Values}
 use Rattle.input.specs.Text.{left}
 use Rattle.input.specs.declared.Place.{Place}
 use Rattle.input.specs.declared.Source.{Source}
-use Rattle.keep.specs.declared.Tally.{Tally}
 use Rattle.properties.specs.declared.Form.{Form}
 use Rattle.properties.specs.declared.Form.TheVariants.{Empty, Opening, PropName, PropOpening, WidthName, PropClosing, Increment, Whole, Failed}
 
@@ -85,15 +84,14 @@ FormAnswer bundle s c r = FormsFrom bundle s (left bundle s c) Empty c r
 -- ---- width deltas
 
 -- the number of a width delta is stored
-abbrev pub DeltaKept : Source → Float → Cursor → Tally → List Float → List Float → Result (PropertyValue × Cursor × Tally) Refusal → Type 0
-DeltaKept s x c n xs xs' r =
-    (bundle : Bytes) (τ : Lent)
-    → Values bundle s (left bundle s c) (at_numbers τ xs') r
-    (keep_delta (reading bundle) x (spot s c) (at_numbers τ xs n))
+abbrev pub DeltaKept : Source → Float → Cursor → Lent → Lent → Result (PropertyValue × Cursor) Refusal → Type 0
+DeltaKept s x c τ τ' r =
+    (bundle : Bytes)
+    → Values bundle s (left bundle s c) τ' r (keep_delta (reading bundle) x (spot s c) τ)
 
 -- with any fuel that is enough
-abbrev pub EvalRead : Bytes → Source → Place → Cursor → Tally → List Float → List Float → Result (PropertyValue × Cursor × Tally) Refusal → Type 0
-EvalRead bundle s o c n xs xs' r =
-    (τ : Lent) (k : ℕ)
+abbrev pub EvalRead : Bytes → Source → Place → Cursor → Lent → Lent → Result (PropertyValue × Cursor) Refusal → Type 0
+EvalRead bundle s o c τ τ' r =
+    (k : ℕ)
     → left bundle s c < k
-    → Values bundle s (left bundle s c) (at_numbers τ xs') r (read_simple_eval (reading bundle) k o (spot s c) (at_numbers τ xs n))
+    → Values bundle s (left bundle s c) τ' r (read_simple_eval (reading bundle) k o (spot s c) τ)

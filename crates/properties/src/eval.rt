@@ -1,6 +1,7 @@
 // Evals: what is read with the numbers only.
 ghost use Rattle.std.specs.Prelude.{◌≡◌};
 ghost use Rattle.base.specs.Bytes.{ascii, same, within};
+ghost use Rattle.keep.specs.Lent.{lent_in, beside_numbers};
 ghost use Rattle.input.specs.Text.{token_of};
 ghost use Rattle.properties.specs.Eval.{word_form, form_next, FormAnswer, DeltaKept, EvalRead};
 
@@ -10,7 +11,7 @@ use base::{Range, same_bytes};
 use cursor::Cursor;
 use input::tokens::{refuse, refuse_reached};
 use input::{Place, Source, Text};
-use keep::{Tally, keep_number};
+use keep::Store;
 use table::PropertyValue;
 use token_kind::Token;
 
@@ -55,15 +56,11 @@ pub fn read_form(text: Text, c: Cursor) -> Result<(Form, Cursor), Refusal>
     let mut at = c;
     loop {
         let (t, _, d) = text.read_mandatory_token(at)?;
-        match t {
-            Token::SemiColon => {
-                return Ok((f, d));
-            }
-            _ => {
-                f = form_next(text.bundle, f, t);
-                at = d;
-            }
+        if t == Token::SemiColon {
+            return Ok((f, d));
         }
+        f = form_next(text.bundle, f, t);
+        at = d;
     }
 }
 
@@ -72,13 +69,15 @@ fn store_delta(
     source: Source,
     x: f64,
     c: Cursor,
-    n: Tally,
-    numbers: &mut [f64],
-) -> Result<(PropertyValue, Cursor, Tally), Refusal>
-    ensures { DeltaKept source x c n numbers.old numbers.new result }
+    store: &mut Store<'_>,
+) -> Result<(PropertyValue, Cursor), Refusal>
+    ensures read { DeltaKept source x c (lent_in store.old) (lent_in store.new) result }
+    ensures beside { beside_numbers store.new ≡ beside_numbers store.old }
 {
-    let m = keep_number(numbers, n, x).ok_or(refuse_reached(TABLE_FULL, NUMBERS, source, c))?;
-    Ok((PropertyValue::WidthDelta(x), c, m))
+    store
+        .keep_number(x)
+        .ok_or(refuse_reached(TABLE_FULL, NUMBERS, source, c))?;
+    Ok((PropertyValue::WidthDelta(x), c))
 }
 
 // Behind the word eval, which begins at o.
@@ -86,14 +85,14 @@ pub fn read_simple_eval(
     text: Text,
     o: Place,
     c: Cursor,
-    n: Tally,
-    numbers: &mut [f64],
-) -> Result<(PropertyValue, Cursor, Tally), Refusal>
-    ensures { EvalRead text.entry.bundle.now text.entry.source o c n numbers.old numbers.new result }
+    store: &mut Store<'_>,
+) -> Result<(PropertyValue, Cursor), Refusal>
+    ensures read { EvalRead text.entry.bundle.now text.entry.source o c (lent_in store.old) (lent_in store.new) result }
+    ensures beside { beside_numbers store.new ≡ beside_numbers store.old }
 {
     let (f, d) = read_form(text, c)?;
     match f {
-        Form::Whole(x) => store_delta(text.source, x, d, n, numbers),
+        Form::Whole(x) => store_delta(text.source, x, d, store),
         _ => Err(refuse(PARSE, EVAL_FORM, o)),
     }
 }

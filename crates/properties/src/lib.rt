@@ -2,24 +2,22 @@
 #![tactic(auto)]
 
 ghost use Rattle.std.specs.Prelude.{◌≡◌};
-ghost use Rattle.base.specs.Bytes.{within};
 ghost use Rattle.grammar.specs.Reader.{joined_value, word_value, identifier_value, reference_value, numbers_value, read_property_value};
-ghost use Rattle.keep.specs.Lent.{colors_of};
+ghost use Rattle.keep.specs.Lent.{colors_of, lent_in, beside_numbers, beside_properties};
 ghost use Rattle.keep.specs.Source.{reading};
 ghost use Rattle.input.specs.Source.{spot};
 ghost use Rattle.input.specs.Text.{name_in};
-ghost use Rattle.properties.specs.Answers.{color_in, ListedRead, NumbersRead, ValueEnd, ValueAnswer, NumbersAnswer, PropertyKept, PropertyRead, HeadRead, PropertiesRead};
+ghost use Rattle.properties.specs.Answers.{ListedRead, NumbersRead, ValueEnd, ValueAnswer, NumbersAnswer, PropertyKept, PropertyRead, HeadRead, PropertiesRead};
 
 use crate::eval::{is_eval, read_simple_eval};
 use base::Range;
 use base::refusal::{
     COLOR_REFERENCE, NUMBERS, PARSE, PROPERTIES, Refusal, TABLE_FULL, UNEXPECTED_TOKEN,
 };
-use color::Color;
 use cursor::Cursor;
 use input::tokens::{refuse, refuse_reached};
 use input::{Place, Source, Text};
-use keep::{Tally, find_color, keep_number, keep_property};
+use keep::{Store, find_color};
 use table::{Name, PropertyValue, color_at};
 use token_kind::Token;
 
@@ -40,23 +38,6 @@ pub enum Form {
     Failed,
 }
 
-// The known colours: the first n of a table.
-#[derive(Clone, Copy)]
-pub struct Known<'a> {
-    pub colors: &'a [u32],
-    pub n: usize,
-}
-
-impl Known<'_> {
-    // The colour of a name, if it is known.
-    fn find(self, bundle: &[u8], name: Range) -> Option<Color>
-        ensures { result ≡ color_in bundle.now (within name bundle.now) self.entry.colors.now self.entry.n }
-    {
-        let i = find_color(bundle, self.colors, self.n, name)?;
-        Some(color_at(self.colors, i))
-    }
-}
-
 // Behind a number of a list: the next number, or none at its end.
 fn read_listed(text: Text, c: Cursor) -> Result<(Option<f64>, Cursor), Refusal>
     ensures { ListedRead text.entry.bundle.now text.entry.source c result }
@@ -73,32 +54,22 @@ fn read_listed(text: Text, c: Cursor) -> Result<(Option<f64>, Cursor), Refusal>
 }
 
 // Behind the first number of a list.
-fn read_number_list(
-    text: Text,
-    x: f64,
-    c: Cursor,
-    n: Tally,
-    numbers: &mut [f64],
-) -> Result<(Cursor, Tally), Refusal>
-    ensures { NumbersRead text.entry.bundle.now text.entry.source x c n numbers.old numbers.new result }
+fn read_number_list(text: Text, x: f64, c: Cursor, store: &mut Store<'_>) -> Result<Cursor, Refusal>
+    ensures read { NumbersRead text.entry.bundle.now text.entry.source x c (lent_in store.old) (lent_in store.new) result }
+    ensures beside { beside_numbers store.new ≡ beside_numbers store.old }
 {
     let mut y = x;
     let mut at = c;
-    let mut k = n;
     loop {
-        let m = keep_number(numbers, k, y).ok_or(refuse_reached(
-            TABLE_FULL,
-            NUMBERS,
-            text.source,
-            at,
-        ))?;
+        store
+            .keep_number(y)
+            .ok_or(refuse_reached(TABLE_FULL, NUMBERS, text.source, at))?;
         let (next, d) = read_listed(text, at)?;
         let Some(z) = next else {
-            return Ok((d, m));
+            return Ok(d);
         };
         y = z;
         at = d;
-        k = m;
     }
 }
 
@@ -107,58 +78,54 @@ fn end_value(
     text: Text,
     value: PropertyValue,
     c: Cursor,
-    n: Tally,
-) -> Result<(PropertyValue, Cursor, Tally), Refusal>
-    ensures { ValueEnd text.entry.bundle.now text.entry.source value c n result }
+) -> Result<(PropertyValue, Cursor), Refusal>
+    ensures { ValueEnd text.entry.bundle.now text.entry.source value c result }
 {
-    let d = text.expect_semicolon(c)?;
-    Ok((value, d, n))
+    let d = text.expect(Token::SemiColon, c)?;
+    Ok((value, d))
 }
 
 // Behind the first word of a value and its colon.
-fn read_joined_value(
-    text: Text,
-    a: Range,
-    c: Cursor,
-    n: Tally,
-) -> Result<(PropertyValue, Cursor, Tally), Refusal>
-    ensures { ValueAnswer text.entry.bundle.now text.entry.source c n (joined_value (reading text.entry.bundle.now) (name_in text.entry.bundle.now a) (spot text.entry.source c)) result }
+fn read_joined_value(text: Text, a: Range, c: Cursor) -> Result<(PropertyValue, Cursor), Refusal>
+    ensures { ValueAnswer text.entry.bundle.now text.entry.source c (joined_value (reading text.entry.bundle.now) (name_in text.entry.bundle.now a) (spot text.entry.source c)) result }
 {
     let (b, d) = text.read_identifier(c)?;
-    end_value(text, PropertyValue::Identifier(Name::Joined(a, b)), d, n)
+    end_value(text, PropertyValue::Identifier(Name::Joined(a, b)), d)
 }
 
 // Behind the first word of a value that is no eval.
-fn read_word_value(
-    text: Text,
-    a: Range,
-    c: Cursor,
-    n: Tally,
-) -> Result<(PropertyValue, Cursor, Tally), Refusal>
-    ensures { ValueAnswer text.entry.bundle.now text.entry.source c n (word_value (reading text.entry.bundle.now) (name_in text.entry.bundle.now a) (spot text.entry.source c)) result }
+fn read_word_value(text: Text, a: Range, c: Cursor) -> Result<(PropertyValue, Cursor), Refusal>
+    ensures { ValueAnswer text.entry.bundle.now text.entry.source c (word_value (reading text.entry.bundle.now) (name_in text.entry.bundle.now a) (spot text.entry.source c)) result }
 {
     let (t, o, d) = text.read_mandatory_token(c)?;
     match t {
-        Token::Colon => read_joined_value(text, a, d, n),
-        Token::SemiColon => Ok((PropertyValue::Identifier(Name::Plain(a)), d, n)),
+        Token::Colon => read_joined_value(text, a, d),
+        Token::SemiColon => Ok((PropertyValue::Identifier(Name::Plain(a)), d)),
         _ => Err(refuse(PARSE, UNEXPECTED_TOKEN, o)),
     }
 }
 
-// A reference to one of the known colours.
+// A reference to one of the known colours: the first n of a store.
 fn read_reference(
     text: Text,
     name: Range,
     c: Cursor,
-    n: Tally,
-    known: Known,
-) -> Result<(PropertyValue, Cursor, Tally), Refusal>
-    ensures { ValueAnswer text.entry.bundle.now text.entry.source c n (reference_value (reading text.entry.bundle.now) (colors_of text.entry.bundle.now known.entry.colors.now known.entry.n) (name_in text.entry.bundle.now name) (spot text.entry.source c)) result }
+    store: &Store<'_>,
+    known: usize,
+) -> Result<(PropertyValue, Cursor), Refusal>
+    ensures { ValueAnswer text.entry.bundle.now text.entry.source c (reference_value (reading text.entry.bundle.now) (colors_of text.entry.bundle.now store.now.colors.now known) (name_in text.entry.bundle.now name) (spot text.entry.source c)) result }
 {
-    let shade = known
-        .find(text.bundle, name)
-        .ok_or(refuse_reached(PARSE, COLOR_REFERENCE, text.source, c))?;
-    end_value(text, PropertyValue::Shade(shade), c, n)
+    let i = find_color(text.bundle, &store.colors[..], known, name).ok_or(refuse_reached(
+        PARSE,
+        COLOR_REFERENCE,
+        text.source,
+        c,
+    ))?;
+    end_value(
+        text,
+        PropertyValue::Shade(color_at(&store.colors[..], i)),
+        c,
+    )
 }
 
 // Behind the first number of a value.
@@ -166,19 +133,18 @@ fn read_numbers_value(
     text: Text,
     x: f64,
     c: Cursor,
-    n: Tally,
-    numbers: &mut [f64],
-) -> Result<(PropertyValue, Cursor, Tally), Refusal>
-    ensures { NumbersAnswer text.entry.bundle.now text.entry.source c n numbers.old numbers.new (λ k. numbers_value (reading text.entry.bundle.now) k x (spot text.entry.source c)) result }
+    store: &mut Store<'_>,
+) -> Result<(PropertyValue, Cursor), Refusal>
+    ensures read { NumbersAnswer text.entry.bundle.now text.entry.source c (lent_in store.old) (lent_in store.new) (λ k. numbers_value (reading text.entry.bundle.now) k x (spot text.entry.source c)) result }
+    ensures beside { beside_numbers store.new ≡ beside_numbers store.old }
 {
-    let (d, m) = read_number_list(text, x, c, n, numbers)?;
+    let d = read_number_list(text, x, c, store)?;
     Ok((
         PropertyValue::Numbers(Range {
-            from: m.number,
-            to: m.numbers,
+            from: store.tally.number,
+            to: store.tally.numbers,
         }),
         d,
-        m,
     ))
 }
 
@@ -188,33 +154,33 @@ fn read_identifier_value(
     a: Range,
     o: Place,
     c: Cursor,
-    n: Tally,
-    numbers: &mut [f64],
-) -> Result<(PropertyValue, Cursor, Tally), Refusal>
-    ensures { NumbersAnswer text.entry.bundle.now text.entry.source c n numbers.old numbers.new (λ k. identifier_value (reading text.entry.bundle.now) k (name_in text.entry.bundle.now a) o (spot text.entry.source c)) result }
+    store: &mut Store<'_>,
+) -> Result<(PropertyValue, Cursor), Refusal>
+    ensures read { NumbersAnswer text.entry.bundle.now text.entry.source c (lent_in store.old) (lent_in store.new) (λ k. identifier_value (reading text.entry.bundle.now) k (name_in text.entry.bundle.now a) o (spot text.entry.source c)) result }
+    ensures beside { beside_numbers store.new ≡ beside_numbers store.old }
 {
     if is_eval(text.bundle, a) {
-        return read_simple_eval(text, o, c, n, numbers);
+        return read_simple_eval(text, o, c, store);
     }
-    read_word_value(text, a, c, n)
+    read_word_value(text, a, c)
 }
 
 fn read_property_value(
     text: Text,
     c: Cursor,
-    n: Tally,
-    numbers: &mut [f64],
-    known: Known,
-) -> Result<(PropertyValue, Cursor, Tally), Refusal>
-    ensures { NumbersAnswer text.entry.bundle.now text.entry.source c n numbers.old numbers.new (λ k τ. read_property_value (reading text.entry.bundle.now) k (colors_of text.entry.bundle.now known.entry.colors.now known.entry.n) (spot text.entry.source c) τ) result }
+    store: &mut Store<'_>,
+    known: usize,
+) -> Result<(PropertyValue, Cursor), Refusal>
+    ensures read { NumbersAnswer text.entry.bundle.now text.entry.source c (lent_in store.old) (lent_in store.new) (λ k τ. read_property_value (reading text.entry.bundle.now) k (colors_of text.entry.bundle.now store.old.colors.now known) (spot text.entry.source c) τ) result }
+    ensures beside { beside_numbers store.new ≡ beside_numbers store.old }
 {
     let (t, o, d) = text.read_mandatory_token(c)?;
     match t {
-        Token::Identifier(a) => read_identifier_value(text, a, o, d, n, numbers),
-        Token::Text(a) => end_value(text, PropertyValue::Text(a), d, n),
-        Token::Color(x) => end_value(text, PropertyValue::Shade(x), d, n),
-        Token::ColorRef(a) => read_reference(text, a, d, n, known),
-        Token::Number(x) => read_numbers_value(text, x, d, n, numbers),
+        Token::Identifier(a) => read_identifier_value(text, a, o, d, store),
+        Token::Text(a) => end_value(text, PropertyValue::Text(a), d),
+        Token::Color(x) => end_value(text, PropertyValue::Shade(x), d),
+        Token::ColorRef(a) => read_reference(text, a, d, store, known),
+        Token::Number(x) => read_numbers_value(text, x, d, store),
         _ => Err(refuse(PARSE, UNEXPECTED_TOKEN, o)),
     }
 }
@@ -224,32 +190,31 @@ fn read_property(
     text: Text,
     name: Range,
     c: Cursor,
-    n: Tally,
-    properties: &mut [u32],
-    numbers: &mut [f64],
-    known: Known,
-) -> Result<(Cursor, Tally), Refusal>
-    ensures { PropertyRead text.entry.bundle.now text.entry.source name c n (colors_of text.entry.bundle.now known.entry.colors.now known.entry.n) properties.old numbers.old properties.new numbers.new result }
+    store: &mut Store<'_>,
+    known: usize,
+) -> Result<Cursor, Refusal>
+    ensures read { PropertyRead text.entry.bundle.now text.entry.source name c (colors_of text.entry.bundle.now store.old.colors.now known) (lent_in store.old) (lent_in store.new) result }
+    ensures beside { beside_properties store.new ≡ beside_properties store.old }
 {
-    let d = text.expect_colon(c)?;
-    let (value, f, m) = read_property_value(text, d, n, numbers, known)?;
-    store_property(text.source, f, m, name, value, properties)
+    let d = text.expect(Token::Colon, c)?;
+    let (value, f) = read_property_value(text, d, store, known)?;
+    store_property(text.source, f, name, value, store)
 }
 
 fn store_property(
     source: Source,
     c: Cursor,
-    n: Tally,
     name: Range,
     value: PropertyValue,
-    properties: &mut [u32],
-) -> Result<(Cursor, Tally), Refusal>
-    ensures { PropertyKept source c n name value properties.old properties.new result }
+    store: &mut Store<'_>,
+) -> Result<Cursor, Refusal>
+    ensures read { PropertyKept source c name value (lent_in store.old) (lent_in store.new) result }
+    ensures beside { beside_properties store.new ≡ beside_properties store.old }
 {
-    let m = keep_property(properties, n, name, value).ok_or(refuse_reached(
-        TABLE_FULL, PROPERTIES, source, c,
-    ))?;
-    Ok((c, m))
+    store
+        .keep_property(name, value)
+        .ok_or(refuse_reached(TABLE_FULL, PROPERTIES, source, c))?;
+    Ok(c)
 }
 
 // The name of a property, or none at the closing brace.
@@ -264,26 +229,22 @@ fn read_head(text: Text, c: Cursor) -> Result<(Option<Range>, Cursor), Refusal>
     }
 }
 
-// Behind the opening brace.
+// Behind the opening brace. The first colours of the store are known, so many.
 pub fn read_properties(
     text: Text,
     c: Cursor,
-    n: Tally,
-    properties: &mut [u32],
-    numbers: &mut [f64],
-    known: Known,
-) -> Result<(Cursor, Tally), Refusal>
-    ensures { PropertiesRead text.entry.bundle.now text.entry.source c n (colors_of text.entry.bundle.now known.entry.colors.now known.entry.n) properties.old numbers.old properties.new numbers.new result }
+    store: &mut Store<'_>,
+    known: usize,
+) -> Result<Cursor, Refusal>
+    ensures read { PropertiesRead text.entry.bundle.now text.entry.source c (colors_of text.entry.bundle.now store.old.colors.now known) (lent_in store.old) (lent_in store.new) result }
+    ensures beside { beside_properties store.new ≡ beside_properties store.old }
 {
     let mut at = c;
-    let mut k = n;
     loop {
         let (head, d) = read_head(text, at)?;
         let Some(name) = head else {
-            return Ok((d, k));
+            return Ok(d);
         };
-        let (f, m) = read_property(text, name, d, k, properties, numbers, known)?;
-        at = f;
-        k = m;
+        at = read_property(text, name, d, store, known)?;
     }
 }

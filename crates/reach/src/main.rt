@@ -64,19 +64,17 @@ impl Words {
     }
 
     // The value of property q. A kind that the sheets do not have fills all the room.
-    fn push_value(&mut self, p: &Table, x: &[f64; 512], q: usize) {
-        match table::property_value(&p[..], &x[..], q) {
+    fn push_value(&mut self, tables: &Tables, q: usize) {
+        match table::property_value(tables.properties, tables.numbers, q) {
             PropertyValue::Shade(c) => self.push(color_word(Some(c))),
             PropertyValue::Numbers(r) if r.from < r.to && r.to - r.from == 1 => {
-                self.push_number(1, base::float_at(&x[..], r.from));
+                self.push_number(1, base::float_at(tables.numbers, r.from));
             }
             PropertyValue::WidthDelta(d) => self.push_number(2, d),
             _ => self.count = 127,
         }
     }
 }
-
-type Table = [u32; 4096];
 
 type Maps = [u32; 4323];
 
@@ -134,7 +132,7 @@ fn ask(bundle: &[u8], entity: &[u8]) -> Given {
     let mut q = [0u32; 4096];
     let mut m = [0u32; 4323];
     let l = parser::load(bundle, &mut r, &mut s, &mut t, &mut p, &mut x, &mut q);
-    let n = counts_of(l);
+    let n = l.map(Counts::from).unwrap_or_default();
     let tables = Tables {
         bundle,
         rules: &r,
@@ -150,10 +148,10 @@ fn ask(bundle: &[u8], entity: &[u8]) -> Given {
         for_labels: false,
     };
     let all = styles::entity_styles(&tables, n, 13, settings, entity);
-    let c = properties_of(bundle, &s, &p, &x, &m, b"c");
-    let c_style = style_of(bundle, &s, &all, b"c");
-    let default = properties_of(bundle, &s, &p, &x, &m, b"default");
-    let default_style = style_of(bundle, &s, &all, b"default");
+    let c = properties_of(&tables, &m, b"c");
+    let c_style = style_of(&tables, &all, b"c");
+    let default = properties_of(&tables, &m, b"default");
+    let default_style = style_of(&tables, &all, b"default");
     Given {
         loaded: 0 < n.rules,
         layers: k as u64,
@@ -164,27 +162,13 @@ fn ask(bundle: &[u8], entity: &[u8]) -> Given {
     }
 }
 
-// The counts that styling reads; a refusal leaves no entries.
-fn counts_of(l: Result<parser::Counts, Refusal>) -> Counts {
-    match l {
-        Err(_) => Counts {
-            rules: 0,
-            selectors: 0,
-            tests: 0,
-            properties: 0,
-            numbers: 0,
-        },
-        Ok(n) => Counts::from(n),
-    }
-}
-
 // The properties of the layer of this name: each name, then its value. A row that is not in use has none.
-fn properties_of(b: &[u8], s: &Table, p: &Table, x: &[f64; 512], m: &Maps, name: &[u8]) -> Words {
+fn properties_of(tables: &Tables, m: &Maps, name: &[u8]) -> Words {
     let mut out = Words::none();
-    if let Some(i) = walk::layer_place(b, &s[..], &m[..], 32, name) {
+    if let Some(i) = walk::layer_place(tables, &m[..], 32, name) {
         for k in walk::maps::row_of(m, i) {
-            out.push_name(walk::names::name_of(b, &p[..], *k));
-            out.push_value(p, x, *k as usize);
+            out.push_name(walk::names::name_of(tables, *k));
+            out.push_value(tables, *k as usize);
         }
     }
     out
@@ -198,18 +182,13 @@ fn color_word(c: Option<Color>) -> u64 {
 }
 
 // The style of the layer of this name.
-fn style_of(
-    bundle: &[u8],
-    s: &Table,
-    all: &Result<styles::EntityStyles, Refusal>,
-    name: &[u8],
-) -> Words {
+fn style_of(tables: &Tables, all: &Result<styles::EntityStyles, Refusal>, name: &[u8]) -> Words {
     let mut out = Words::none();
     let Ok(all) = all else {
         return out;
     };
     for l in all.styled() {
-        if walk::names::is_layer(bundle, &s[..], l.selector, name) {
+        if walk::names::is_layer(tables, l.selector, name) {
             out = style_words(l.style);
         }
     }

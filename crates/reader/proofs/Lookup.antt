@@ -1,7 +1,6 @@
 -- Tag lookup: one step of the scan, a key of two parts, and that it finds what the map of tags has.
 use Prim.Native.Nat.{ℕ, suc, ◌+◌, ◌<◌, ◌≤◌}
 use native.Mathlib.Omega.{arith}
-use native.Mathlib.Nat.{sub-zero}
 use native.Mathlib.Numerals.{add-one}
 use mathlib.Core.Path.{◌≡◌, refl, sym, ◌∙◌, ap}
 use mathlib.Core.Bool.{Bool, true, false, ◌&&◌, and-false}
@@ -16,7 +15,7 @@ use Rattle.base.specs.Choice.{pick, by-test}
 use Rattle.base.specs.Map.{lookup}
 use Rattle.base.proofs.Compare.{same_lengths, rest_all}
 use Rattle.group.specs.Pair.{Ranges, pairs_at, entries_at, named}
-use Rattle.entity.specs.Layout.{value_of, tags_of}
+use Rattle.entity.specs.Layout.{value_of, tags_of, tag_ranges}
 use Rattle.entity.specs.declared.EntityRange.{EntityRange}
 use Rattle.cascade.specs.Match.{tag}
 use Rattle.reader.specs.Tags.{value_in}
@@ -55,23 +54,15 @@ module _ (a b y : Bytes) where
     pub joined_else : (get_or y (length a) 0 ≡ 58 → ⊥) → false ≡ same (a ++ (58 ∷ b)) y
     joined_else h = sym (joined_colon ∙ (rw (ne_eqb 58 (get_or y (length a) 0) (λ e. h (sym e))) (and-false (same a (take (length a) y)))))
 
-    module _ (c : get_or y (length a) 0 ≡ 58) (u : Bytes) (r : Bool) (p : u ≡ between 0 (length a) y) (q : r ≡ same a u) where
-      first_same : same a (take (length a) y) ≡ r
-      first_same = ap (λ (k : ℕ). same a (take k y)) (sym (sub-zero (length a))) ∙ ap (same a) (sym p) ∙ sym q
-
+    module _ (c : get_or y (length a) 0 ≡ 58) (r : Bool) (q : r ≡ same a (take (length a) y)) where
       pub joined_not : r ≡ false → false ≡ same (a ++ (58 ∷ b)) y
-      joined_not f = sym (joined_colon ∙ (rw (first_same ∙ f)))
+      joined_not f = sym (joined_colon ∙ (rw (sym q ∙ f)))
 
-      pub joined_rest :
-          (w : Bytes) (t : Bool)
-          → r ≡ true
-          → w ≡ between (length a + 1) (length y) y
-          → t ≡ same b w
-          → t ≡ same (a ++ (58 ∷ b)) y
-      joined_rest w t f g i =
+      pub joined_rest : (t : Bool) → r ≡ true → t ≡ same b (between (length a + 1) (length y) y) → t ≡ same (a ++ (58 ∷ b)) y
+      joined_rest t f i =
           i
-          ∙ ap (same b) (g ∙ rest_all y (length a + 1) ∙ ap (λ (k : ℕ). drop k y) (add-one (length a)))
-          ∙ sym (joined_colon ∙ (rw (first_same ∙ f, eq-eqb 58 (get_or y (length a) 0) (sym c))))
+          ∙ ap (same b) (rest_all y (length a + 1) ∙ ap (λ (k : ℕ). drop k y) (add-one (length a)))
+          ∙ sym (joined_colon ∙ (rw (sym q ∙ f, eq-eqb 58 (get_or y (length a) 0) (sym c))))
 
 -- the scan finds what the map of tags has
 module _ (s key : Bytes) where
@@ -90,6 +81,6 @@ module _ (s key : Bytes) where
   pub tag_value :
       (e : EntityRange)
       → tag (value_of s e) key
-      ≡ on_option (value_in s key (pairs_at e.count s e.tags)) none (λ r. some (within r s))
+      ≡ on_option (value_in s key (tag_ranges s e)) none (λ r. some (within r s))
   unfolding value_of tags_of
   tag_value e = value_lookup e.count e.tags

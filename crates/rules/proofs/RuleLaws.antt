@@ -3,7 +3,7 @@ use Prim.Native.Nat.{ℕ, suc, ◌<◌, ◌≤◌}
 use native.Mathlib.Omega.{arith}
 use mathlib.Core.Path.{◌≡◌, refl, sym, ap, subst, ◌∙◌}
 use mathlib.Core.Bool.{Bool, false, cond}
-use mathlib.Core.List.{List, [], ◌∷◌}
+use mathlib.Core.List.{[], ◌∷◌}
 use mathlib.Core.Option.{Option as Option', none, some}
 use Rattle.base.specs.Bytes.{Bytes}
 use Rattle.base.specs.Choice.{different}
@@ -22,13 +22,13 @@ use Rattle.token_kind.specs.contracts.Token.{the_type}
 use Rattle.input.proofs.TokenLaws.{others, not_sign, not_identifier}
 use Rattle.keep.proofs.Laws.{option_none, option_some, no_way}
 use Rattle.keep.specs.Answers.{Reads, refuses, done}
-use Rattle.keep.specs.Lent.{Lent, lent, type_number, level_in, layer_in, keep_selector_of, keep_rule_of, taken, put_entry}
+use Rattle.keep.specs.Lent.{Lent, type_number, level_in, layer_in, selector_kept, rule_kept, put_entry}
+use Rattle.keep.proofs.KeepLaws.{is_full, is_put}
 use Rattle.keep.specs.Source.{reading}
 use Rattle.input.specs.Source.{Spot, spot}
 use Rattle.input.specs.Text.{left, name_in, level_of, token_of, refusal_at, reached_at}
 use Rattle.input.specs.declared.Place.{Place}
 use Rattle.input.specs.declared.Source.{Source}
-use Rattle.keep.specs.declared.Tally.{Tally}
 use Rattle.table.specs.declared.kind.ObjectKind.{ObjectKind}
 use Rattle.rules.proofs.KindLaws.{same_number}
 use Rattle.table.specs.Kind.{object_number}
@@ -39,8 +39,7 @@ use Rattle.rules.specs.declared.Part.TheVariants.{Closing, Zoom, Bracket, Class,
 use Rattle.rules.specs.declared.Start.{Start}
 use Rattle.rules.specs.declared.Start.TheVariants.{Body, ColorsBlock, Object}
 use Rattle.std.specs.Prelude.{Option, Some, None, Result, Ok, Err}
-use Rattle.base.specs.Option.{on_option as on_option', with_option}
-use Rattle.base.proofs.Options.{ok2_first, ok2_second, ok3_first, ok3_second, ok3_third, some2_first, some2_second}
+use Rattle.base.proofs.Options.{ok2_first, ok2_second, some2_first, some2_second}
 
 -- ---- parts
 
@@ -174,17 +173,17 @@ module _ {σ : Selector} {kind : ℕ} {min max : Option ℕ} {layer : Option Ran
 -- ---- selectors
 
 pub widen_selector :
-    {bundle : Bytes} {s : Source} {b b' : ℕ} {tables : Tally → Lent} {r : Result (Bool × Cursor × Tally) Refusal} {a : Answer (Selector × Bool) Spot Lent Refusal}
+    {bundle : Bytes} {s : Source} {b b' : ℕ} {then : Lent} {r : Result (Bool × Cursor) Refusal} {a : Answer (Selector × Bool) Spot Lent Refusal}
     → b ≤ b'
-    → Selects bundle s b tables r a
-    → Selects bundle s b' tables r a
+    → Selects bundle s b then r a
+    → Selects bundle s b' then r a
 widen_selector h (no_selector e) = no_selector e
 widen_selector h (one_selector x d l) = one_selector x d (omega arith)
 
-module _ {B : Type 0} (Q : Answer B Spot Lent Refusal → Type 0) {bundle : Bytes} {s : Source} {b : ℕ} {tables : Tally → Lent} (k : Selector × Bool → Spot → Lent → Answer B Spot Lent Refusal) where
+module _ {B : Type 0} (Q : Answer B Spot Lent Refusal → Type 0) {bundle : Bytes} {s : Source} {b : ℕ} {then : Lent} (k : Selector × Bool → Spot → Lent → Answer B Spot Lent Refusal) where
   pub after_unselected :
-      {r : Result (Bool × Cursor × Tally) Refusal} {a : Answer (Selector × Bool) Spot Lent Refusal} {e : Refusal}
-      → Selects bundle s b tables r a
+      {r : Result (Bool × Cursor) Refusal} {a : Answer (Selector × Bool) Spot Lent Refusal} {e : Refusal}
+      → Selects bundle s b then r a
       → r ≡ Err e
       → ((e' : Refusal) (τ : Lent) → e ≡ e' → Q (refused e' τ))
       → Q (after a k)
@@ -193,34 +192,32 @@ module _ {B : Type 0} (Q : Answer B Spot Lent Refusal → Type 0) {bundle : Byte
   after_unselected (one_selector x d l) q f = different cc
 
   pub after_selected :
-      {r : Result (Bool × Cursor × Tally) Refusal} {a : Answer (Selector × Bool) Spot Lent Refusal} {x : Bool} {d : Cursor} {n : Tally}
-      → Selects bundle s b tables r a
-      → r ≡ Ok (x, d, n)
-      → ((σ : Selector) → left bundle s d ≤ b → Q (k (σ, x) (spot s d) (tables n)))
+      {r : Result (Bool × Cursor) Refusal} {a : Answer (Selector × Bool) Spot Lent Refusal} {x : Bool} {d : Cursor}
+      → Selects bundle s b then r a
+      → r ≡ Ok (x, d)
+      → ((σ : Selector) → left bundle s d ≤ b → Q (k (σ, x) (spot s d) then))
       → Q (after a k)
   unfolding after
   after_selected (no_selector p) q f = different cc
-  after_selected {x = x} {d} {n} (one_selector {σ = σ} y e {n = m} l) q f =
-      let z : d ≡ e = sym (ok3_second q) in
-      let u : x ≡ y = sym (ok3_first q) in
-      let v : n ≡ m = sym (ok3_third q) in
-      subst (λ m. Q (k (σ, y) (spot s e) (tables m))) v
-      (subst (λ y. Q (k (σ, y) (spot s e) (tables n))) u
-      (subst (λ e. Q (k (σ, x) (spot s e) (tables n))) z (f σ (subst (λ e. left bundle s e ≤ b) (sym z) l))))
+  after_selected {x = x} {d} (one_selector {σ = σ} y e l) q f =
+      let z : d ≡ e = sym (ok2_second q) in
+      let u : x ≡ y = sym (ok2_first q) in
+      subst (λ y. Q (k (σ, y) (spot s e) then)) u
+      (subst (λ e. Q (k (σ, x) (spot s e) then)) z (f σ (subst (λ e. left bundle s e ≤ b) (sym z) l)))
 
 pub widen_choice :
-    {bundle : Bytes} {s : Source} {b b' : ℕ} {tables : Tally → Lent} {L : Selector → Spot → Lent → Answer Rule Spot Lent Refusal} {N : Selector → Token' → Place → Spot → Lent → Answer Rule Spot Lent Refusal} {r : Result Choice Refusal} {a : Answer Rule Spot Lent Refusal}
+    {bundle : Bytes} {s : Source} {b b' : ℕ} {then : Lent} {L : Selector → Spot → Lent → Answer Rule Spot Lent Refusal} {N : Selector → Token' → Place → Spot → Lent → Answer Rule Spot Lent Refusal} {r : Result Choice Refusal} {a : Answer Rule Spot Lent Refusal}
     → b ≤ b'
-    → Chooses bundle s b tables L N r a
-    → Chooses bundle s b' tables L N r a
+    → Chooses bundle s b then L N r a
+    → Chooses bundle s b' then L N r a
 widen_choice h (unchosen e) = unchosen e
 widen_choice h (last_chosen σ d l) = last_chosen σ d (omega arith)
 widen_choice h (next_chosen σ t o d l) = next_chosen σ t o d (omega arith)
 
-module _ (Q : Answer Rule Spot Lent Refusal → Type 0) {bundle : Bytes} {s : Source} {b : ℕ} {tables : Tally → Lent} {L : Selector → Spot → Lent → Answer Rule Spot Lent Refusal} {N : Selector → Token' → Place → Spot → Lent → Answer Rule Spot Lent Refusal} where
+module _ (Q : Answer Rule Spot Lent Refusal → Type 0) {bundle : Bytes} {s : Source} {b : ℕ} {then : Lent} {L : Selector → Spot → Lent → Answer Rule Spot Lent Refusal} {N : Selector → Token' → Place → Spot → Lent → Answer Rule Spot Lent Refusal} where
   pub choice_none :
       {r : Result Choice Refusal} {a : Answer Rule Spot Lent Refusal} {e : Refusal}
-      → Chooses bundle s b tables L N r a
+      → Chooses bundle s b then L N r a
       → r ≡ Err e
       → ((e' : Refusal) (τ : Lent) → e ≡ e' → Q (refused e' τ))
       → Q a
@@ -229,40 +226,36 @@ module _ (Q : Answer Rule Spot Lent Refusal → Type 0) {bundle : Bytes} {s : So
   choice_none (next_chosen σ t o d l) q k = different cc
 
   pub choice_last :
-      {r : Result Choice Refusal} {a : Answer Rule Spot Lent Refusal} {d : Cursor} {n : Tally}
-      → Chooses bundle s b tables L N r a
-      → r ≡ Ok (None, d, n)
-      → ((σ : Selector) → left bundle s d ≤ b → Q (L σ (spot s d) (tables n)))
+      {r : Result Choice Refusal} {a : Answer Rule Spot Lent Refusal} {d : Cursor}
+      → Chooses bundle s b then L N r a
+      → r ≡ Ok (None, d)
+      → ((σ : Selector) → left bundle s d ≤ b → Q (L σ (spot s d) then))
       → Q a
   choice_last (unchosen p) q k = different cc
-  choice_last {d = d} {n} (last_chosen σ f {n = m} l) q k =
-      let z : d ≡ f = sym (ok3_second q) in
-      let v : n ≡ m = sym (ok3_third q) in
-      subst (λ m. Q (L σ (spot s f) (tables m))) v
-      (subst (λ f. Q (L σ (spot s f) (tables n))) z (k σ (subst (λ f. left bundle s f ≤ b) (sym z) l)))
+  choice_last {d = d} (last_chosen σ f l) q k =
+      let z : d ≡ f = sym (ok2_second q) in
+      subst (λ f. Q (L σ (spot s f) then)) z (k σ (subst (λ f. left bundle s f ≤ b) (sym z) l))
   choice_last (next_chosen σ u p f l) q k =
-      let none = ok3_first q in
+      let none = ok2_first q in
       different cc
 
   pub choice_next :
-      {r : Result Choice Refusal} {a : Answer Rule Spot Lent Refusal} {t : Token} {o : Place} {d : Cursor} {n : Tally}
-      → Chooses bundle s b tables L N r a
-      → r ≡ Ok (Some (t, o), d, n)
-      → ((σ : Selector) → left bundle s d < b → Q (N σ (token_of bundle t) o (spot s d) (tables n)))
+      {r : Result Choice Refusal} {a : Answer Rule Spot Lent Refusal} {t : Token} {o : Place} {d : Cursor}
+      → Chooses bundle s b then L N r a
+      → r ≡ Ok (Some (t, o), d)
+      → ((σ : Selector) → left bundle s d < b → Q (N σ (token_of bundle t) o (spot s d) then))
       → Q a
   choice_next (unchosen p) q k = different cc
   choice_next (last_chosen σ f l) q k =
-      let none = ok3_first q in
+      let none = ok2_first q in
       different cc
-  choice_next {t = t} {o} {d} {n} (next_chosen σ u p f {n = m} l) q k =
-      let z : d ≡ f = sym (ok3_second q) in
-      let v : n ≡ m = sym (ok3_third q) in
-      let x : t ≡ u = sym (some2_first (ok3_first q)) in
-      let y : o ≡ p = sym (some2_second (ok3_first q)) in
-      subst (λ m. Q (N σ (token_of bundle u) p (spot s f) (tables m))) v
-      (subst (λ u. Q (N σ (token_of bundle u) p (spot s f) (tables n))) x
-      (subst (λ p. Q (N σ (token_of bundle t) p (spot s f) (tables n))) y
-      (subst (λ f. Q (N σ (token_of bundle t) o (spot s f) (tables n))) z (k σ (subst (λ f. left bundle s f < b) (sym z) l)))))
+  choice_next {t = t} {o} {d} (next_chosen σ u p f l) q k =
+      let z : d ≡ f = sym (ok2_second q) in
+      let x : t ≡ u = sym (some2_first (ok2_first q)) in
+      let y : o ≡ p = sym (some2_second (ok2_first q)) in
+      subst (λ u. Q (N σ (token_of bundle u) p (spot s f) then)) x
+      (subst (λ p. Q (N σ (token_of bundle t) p (spot s f) then)) y
+      (subst (λ f. Q (N σ (token_of bundle t) o (spot s f) then)) z (k σ (subst (λ f. left bundle s f < b) (sym z) l))))
 
 -- ---- the start of a selector
 
@@ -332,15 +325,14 @@ ways_of bundle k σ τ =
 
 -- what a call has read
 pub read_value :
-    {A : Type 0} {bundle : Bytes} {s : Source} {b : ℕ} {tables : Tally → Lent} {r : Result (Cursor × Tally) Refusal} {a : Answer A Spot Lent Refusal} {d : Cursor} {n : Tally}
-    → Reads bundle s b tables r a
-    → r ≡ Ok (d, n)
-    → (x : A) × ((a ≡ read x (spot s d) (tables n)) × (left bundle s d ≤ b))
+    {A : Type 0} {bundle : Bytes} {s : Source} {b : ℕ} {then : Lent} {r : Result Cursor Refusal} {a : Answer A Spot Lent Refusal} {d : Cursor}
+    → Reads bundle s b then r a
+    → r ≡ Ok d
+    → (x : A) × ((a ≡ read x (spot s d) then) × (left bundle s d ≤ b))
 read_value (refuses p) q = different cc
-read_value {bundle = bundle} {s} {b} {tables} {d = d} {n} (done {x = x} e {n = m} l) q =
-    let z : e ≡ d = ok2_first q in
-    let w : m ≡ n = ok2_second q in
-    (x, (ap (λ e. read x (spot s e) (tables m)) z ∙ ap (λ m. read x (spot s d) (tables m)) w, subst (λ e. left bundle s e ≤ b) z l))
+read_value {bundle = bundle} {s} {b} {then} {d = d} (done {x = x} e l) q =
+    let z : e ≡ d = cc in
+    (x, (ap (λ e. read x (spot s e) then) z, subst (λ e. left bundle s e ≤ b) z l))
 
 pub after_known :
     {A B : Type 0} (Q : Answer B Spot Lent Refusal → Type 0) (k : A → Spot → Lent → Answer B Spot Lent Refusal) {a : Answer A Spot Lent Refusal} {x : A} {d : Spot} {τ : Lent}
@@ -356,55 +348,43 @@ module _ {A : Type 0} (Q : Answer A Spot Lent Refusal → Type 0) (bundle : Byte
   selector_row :
       (σ : Selector) (kind : ℕ) (min max : Option ℕ) (layer : Option Range) (τ : Lent)
       → Shown σ kind min max layer
-      → keep_selector_of τ.tally τ.selectors (type_number σ.object_type) (level_in σ.min_zoom) (level_in σ.max_zoom) (layer_in σ.layer_id)
-      ≡ keep_selector_of τ.tally τ.selectors kind min max layer
+      → selector_kept τ (type_number σ.object_type) (level_in σ.min_zoom) (level_in σ.max_zoom) (layer_in σ.layer_id)
+      ≡ selector_kept τ kind min max layer
   selector_row σ kind min max layer τ h = rw (h.type_is, h.min_is, h.max_is, h.layer_is) refl
 
   pub no_room_selector :
-      (σ : Selector) (kind : ℕ) (min max : Option ℕ) (layer : Option Range) (c : Cursor) (τ : Lent) (k : Lent → Answer A Spot Lent Refusal) {u : List ℕ}
+      (σ : Selector) (kind : ℕ) (min max : Option ℕ) (layer : Option Range) (c : Cursor) (τ : Lent) (k : Lent → Answer A Spot Lent Refusal) {τ' : Lent}
       → Shown σ kind min max layer
-      → keep_selector_of τ.tally τ.selectors kind min max layer ≡ (None, u)
+      → selector_kept τ kind min max layer ≡ (None, τ')
       → Q (refused (refusal_at 20 2 (reached_at s c)) τ)
       → Q (keep (reading bundle) (selector_entry σ) (spot s c) τ k)
-  unfolding put_entry taken with_option on_option on_option'
-  no_room_selector σ kind min max layer c τ k h e q =
-      option_none Q _ _ k
-      (ap (λ y. taken y λ n t. lent n τ.rules t τ.tests τ.properties τ.numbers τ.colors) (selector_row σ kind min max layer τ h ∙ e))
-      q
+  unfolding put_entry selector_kept
+  no_room_selector σ kind min max layer c τ k h e q = option_none Q _ _ k (is_full _ _ _ (selector_row σ kind min max layer τ h ∙ e)) q
 
   pub room_selector :
-      (σ : Selector) (kind : ℕ) (min max : Option ℕ) (layer : Option Range) (c : Cursor) (τ : Lent) (k : Lent → Answer A Spot Lent Refusal) {n : Tally} {u : List ℕ}
+      (σ : Selector) (kind : ℕ) (min max : Option ℕ) (layer : Option Range) (c : Cursor) (τ : Lent) (k : Lent → Answer A Spot Lent Refusal) {y : Unit} {τ' : Lent}
       → Shown σ kind min max layer
-      → keep_selector_of τ.tally τ.selectors kind min max layer ≡ (Some n, u)
-      → Q (k (lent n τ.rules u τ.tests τ.properties τ.numbers τ.colors))
+      → selector_kept τ kind min max layer ≡ (Some y, τ')
+      → Q (k τ')
       → Q (keep (reading bundle) (selector_entry σ) (spot s c) τ k)
-  unfolding put_entry taken with_option on_option on_option'
-  room_selector σ kind min max layer c τ k h e q =
-      option_some Q _ _ k
-      (ap (λ y. taken y λ n t. lent n τ.rules t τ.tests τ.properties τ.numbers τ.colors) (selector_row σ kind min max layer τ h ∙ e))
-      q
+  unfolding put_entry selector_kept
+  room_selector σ kind min max layer c τ k h e q = option_some Q _ _ k (is_put _ _ _ (selector_row σ kind min max layer τ h ∙ e)) q
 
   pub no_room_rule :
-      (c : Cursor) (τ : Lent) (k : Lent → Answer A Spot Lent Refusal) {u : List ℕ}
-      → keep_rule_of τ.tally τ.rules ≡ (None, u)
+      (c : Cursor) (τ : Lent) (k : Lent → Answer A Spot Lent Refusal) {τ' : Lent}
+      → rule_kept τ ≡ (None, τ')
       → Q (refused (refusal_at 20 1 (reached_at s c)) τ)
       → Q (keep (reading bundle) rule_entry (spot s c) τ k)
-  unfolding put_entry taken with_option on_option on_option'
-  no_room_rule c τ k e q =
-      option_none Q _ _ k
-      (ap (λ y. taken y λ n t. lent n t τ.selectors τ.tests τ.properties τ.numbers τ.colors) e)
-      q
+  unfolding put_entry rule_kept
+  no_room_rule c τ k e q = option_none Q _ _ k (is_full _ _ _ e) q
 
   pub room_rule :
-      (c : Cursor) (τ : Lent) (k : Lent → Answer A Spot Lent Refusal) {n : Tally} {u : List ℕ}
-      → keep_rule_of τ.tally τ.rules ≡ (Some n, u)
-      → Q (k (lent n u τ.selectors τ.tests τ.properties τ.numbers τ.colors))
+      (c : Cursor) (τ : Lent) (k : Lent → Answer A Spot Lent Refusal) {y : Unit} {τ' : Lent}
+      → rule_kept τ ≡ (Some y, τ')
+      → Q (k τ')
       → Q (keep (reading bundle) rule_entry (spot s c) τ k)
-  unfolding put_entry taken with_option on_option on_option'
-  room_rule c τ k e q =
-      option_some Q _ _ k
-      (ap (λ y. taken y λ n t. lent n t τ.selectors τ.tests τ.properties τ.numbers τ.colors) e)
-      q
+  unfolding put_entry rule_kept
+  room_rule c τ k e q = option_some Q _ _ k (is_put _ _ _ e) q
 
 -- ---- colors blocks and object types
 

@@ -1,5 +1,5 @@
 -- What the readers of selectors and rules promise.
-use Rattle.std.specs.Prelude.{ℕ, suc, ◌<◌, ◌≤◌, ◌≡◌, Bool, true, false, cond, List, Float, Option, Some, None, Result, Ok, Err}
+use Rattle.std.specs.Prelude.{ℕ, suc, ◌<◌, ◌≤◌, ◌≡◌, Bool, true, false, cond, List, Option, Some, None, Result, Ok, Err}
 use Rattle.std.proofs.Math.Option.{Option as Option'}
 use Rattle.base.specs.Bytes.{Bytes, within}
 use Rattle.base.specs.declared.Range.{Range}
@@ -13,13 +13,12 @@ use Rattle.grammar.specs.View.{on_sign, on_identifier, on_zoom_range}
 use Rattle.grammar.specs.Reading.{Selector, Property, Rule, Colors, bare, id_to_object_type}
 use Rattle.grammar.specs.Input.{object_type, Answer, refused, read, on_option, after, fail}
 use Rattle.grammar.specs.Reader.{is_colors, read_mandatory_token, unexpected_token, read_identifier, keep_selector, read_parts, keep_rule, read_body, read_block, read_rule}
-use Rattle.keep.specs.Lent.{Lent, lent, type_number, level_in, layer_in, colors_of}
+use Rattle.keep.specs.Lent.{Lent, type_number, level_in, layer_in, colors_of}
 use Rattle.keep.specs.Source.{reading}
 use Rattle.input.specs.Source.{Spot, spot}
 use Rattle.input.specs.Text.{left, name_in, level_of, token_of}
 use Rattle.input.specs.declared.Place.{Place}
 use Rattle.input.specs.declared.Source.{Source}
-use Rattle.keep.specs.declared.Tally.{Tally}
 use Rattle.keep.specs.Answers.{Reads}
 use Rattle.rules.specs.declared.Part.{Part}
 use Rattle.rules.specs.declared.Part.TheVariants.{Closing, Zoom, Bracket, Class, Layer}
@@ -78,59 +77,56 @@ pub record Shown (σ : Selector) (kind : ℕ) (min max : Option ℕ) (layer : Op
   pub max_is : level_in σ.max_zoom ≡ max
   pub layer_is : layer_in σ.layer_id ≡ layer
 
-pub data Selects (bundle : Bytes) (s : Source) (bound : ℕ) (tables : Tally → Lent) : Result (Bool × Cursor × Tally) Refusal → Ans (Selector × Bool) → Type 0 where
-  no_selector : {e e' : Refusal} {τ : Lent} → e ≡ e' → Selects bundle s bound tables (Err e) (refused e' τ)
+pub data Selects (bundle : Bytes) (s : Source) (bound : ℕ) (then : Lent) : Result (Bool × Cursor) Refusal → Ans (Selector × Bool) → Type 0 where
+  no_selector : {e e' : Refusal} {τ : Lent} → e ≡ e' → Selects bundle s bound then (Err e) (refused e' τ)
   one_selector :
-      {σ : Selector} (b : Bool) (d : Cursor) {n : Tally}
+      {σ : Selector} (b : Bool) (d : Cursor)
       → left bundle s d ≤ bound
-      → Selects bundle s bound tables (Ok (b, d, n)) (read (σ, b) (spot s d) (tables n))
+      → Selects bundle s bound then (Ok (b, d)) (read (σ, b) (spot s d) then)
 
-abbrev pub at_selectors : Lent → List ℕ → List ℕ → List Float → Tally → Lent
-at_selectors τ ss ts xs n = lent n τ.rules ss ts τ.properties xs τ.colors
-
-abbrev pub SelectorKept : Source → ℕ → Option ℕ → Option ℕ → Option Range → Bool → Cursor → Tally → List ℕ → List ℕ → Result (Bool × Cursor × Tally) Refusal → Type 0
-SelectorKept s kind min max layer more c n ss ss' r =
-    (bundle : Bytes) (τ : Lent) (σ : Selector)
+-- from the tables τ to the tables τ'
+abbrev pub SelectorKept : Source → ℕ → Option ℕ → Option ℕ → Option Range → Bool → Cursor → Lent → Lent → Result (Bool × Cursor) Refusal → Type 0
+SelectorKept s kind min max layer more c τ τ' r =
+    (bundle : Bytes) (σ : Selector)
     → Shown σ kind min max layer
-    → Selects bundle s (left bundle s c) (at_selectors τ ss' τ.tests τ.numbers) r
-    (keep_selector (reading bundle) σ more (spot s c) (at_selectors τ ss τ.tests τ.numbers n))
+    → Selects bundle s (left bundle s c) τ' r (keep_selector (reading bundle) σ more (spot s c) τ)
 
-abbrev pub SelectorRead : Bytes → Source → ℕ → Cursor → Tally → List ℕ → List ℕ → List Float → List ℕ → List ℕ → List Float → Result (Bool × Cursor × Tally) Refusal → Type 0
-SelectorRead bundle s kind c n ss ts xs ss' ts' xs' r =
-    (τ : Lent) (k : ℕ) (y : ObjectType)
+abbrev pub SelectorRead : Bytes → Source → ℕ → Cursor → Lent → Lent → Result (Bool × Cursor) Refusal → Type 0
+SelectorRead bundle s kind c τ τ' r =
+    (k : ℕ) (y : ObjectType)
     → type_number y ≡ kind
     → left bundle s c < k
-    → Selects bundle s (left bundle s c) (at_selectors τ ss' ts' xs') r (read_parts (reading bundle) k (bare y) (spot s c) (at_selectors τ ss ts xs n))
+    → Selects bundle s (left bundle s c) τ' r (read_parts (reading bundle) k (bare y) (spot s c) τ)
 
 -- the first token of the next selector and where that begins, or none behind the last; and how far the text is read
 abbrev pub Choice : Type 0
-Choice = Option (Token × Place) × Cursor × Tally
+Choice = Option (Token × Place) × Cursor
 
 -- what the last selector and the start of another lead to
-pub data Chooses (bundle : Bytes) (s : Source) (bound : ℕ) (tables : Tally → Lent) (L : Selector → Spot → Lent → Ans Rule) (N : Selector → Token' → Place → Spot → Lent → Ans Rule) : Result Choice Refusal → Ans Rule → Type 0 where
-  unchosen : {e e' : Refusal} {τ : Lent} → e ≡ e' → Chooses bundle s bound tables L N (Err e) (refused e' τ)
+pub data Chooses (bundle : Bytes) (s : Source) (bound : ℕ) (then : Lent) (L : Selector → Spot → Lent → Ans Rule) (N : Selector → Token' → Place → Spot → Lent → Ans Rule) : Result Choice Refusal → Ans Rule → Type 0 where
+  unchosen : {e e' : Refusal} {τ : Lent} → e ≡ e' → Chooses bundle s bound then L N (Err e) (refused e' τ)
   last_chosen :
-      (σ : Selector) (d : Cursor) {n : Tally}
+      (σ : Selector) (d : Cursor)
       → left bundle s d ≤ bound
-      → Chooses bundle s bound tables L N (Ok (None, d, n)) (L σ (spot s d) (tables n))
+      → Chooses bundle s bound then L N (Ok (None, d)) (L σ (spot s d) then)
   next_chosen :
-      (σ : Selector) (t : Token) (o : Place) (d : Cursor) {n : Tally}
+      (σ : Selector) (t : Token) (o : Place) (d : Cursor)
       → left bundle s d < bound
-      → Chooses bundle s bound tables L N (Ok (Some (t, o), d, n)) (N σ (token_of bundle t) o (spot s d) (tables n))
+      → Chooses bundle s bound then L N (Ok (Some (t, o), d)) (N σ (token_of bundle t) o (spot s d) then)
 
-abbrev pub NextRead : Bytes → Source → Cursor → Tally → Result Choice Refusal → Type 0
-NextRead bundle s c n r =
-    (tables : Tally → Lent) (L : Selector → Spot → Lent → Ans Rule) (N : Selector → Token' → Place → Spot → Lent → Ans Rule) (σ : Selector)
-    → Chooses bundle s (left bundle s c) tables L N r
-    (read_mandatory_token (reading bundle) (spot s c) (tables n) λ t o f. N σ t o f (tables n))
+abbrev pub NextRead : Bytes → Source → Cursor → Result Choice Refusal → Type 0
+NextRead bundle s c r =
+    (τ : Lent) (L : Selector → Spot → Lent → Ans Rule) (N : Selector → Token' → Place → Spot → Lent → Ans Rule) (σ : Selector)
+    → Chooses bundle s (left bundle s c) τ L N r
+    (read_mandatory_token (reading bundle) (spot s c) τ λ t o f. N σ t o f τ)
 
-abbrev pub ChoiceRead : Bytes → Source → ℕ → Cursor → Tally → List ℕ → List ℕ → List Float → List ℕ → List ℕ → List Float → Result Choice Refusal → Type 0
-ChoiceRead bundle s kind c n ss ts xs ss' ts' xs' r =
-    (τ : Lent) (k : ℕ) (y : ObjectType) (L : Selector → Spot → Lent → Ans Rule) (N : Selector → Token' → Place → Spot → Lent → Ans Rule)
+abbrev pub ChoiceRead : Bytes → Source → ℕ → Cursor → Lent → Lent → Result Choice Refusal → Type 0
+ChoiceRead bundle s kind c τ τ' r =
+    (k : ℕ) (y : ObjectType) (L : Selector → Spot → Lent → Ans Rule) (N : Selector → Token' → Place → Spot → Lent → Ans Rule)
     → type_number y ≡ kind
     → left bundle s c < k
-    → Chooses bundle s (left bundle s c) (at_selectors τ ss' ts' xs') L N r
-    (after (read_parts (reading bundle) k (bare y) (spot s c) (at_selectors τ ss ts xs n)) λ σ e τ.
+    → Chooses bundle s (left bundle s c) τ' L N r
+    (after (read_parts (reading bundle) k (bare y) (spot s c) τ) λ σ e τ.
     cond σ.1 (read_mandatory_token (reading bundle) e τ λ t o f. N σ.0 t o f τ) (L σ.0 e τ))
 
 -- ---- the start of a selector
@@ -163,33 +159,28 @@ StartRead bundle t o r =
 
 -- ---- rules
 
-abbrev pub at_body : Lent → List ℕ → List ℕ → List Float → Tally → Lent
-at_body τ rs ps xs n = lent n rs τ.selectors τ.tests ps xs τ.colors
+abbrev pub RuleKept : Source → Cursor → Lent → Lent → Result Cursor Refusal → Type 0
+RuleKept s c τ τ' r =
+    (bundle : Bytes) (ss : List Selector) (ps : List Property)
+    → Reads bundle s (left bundle s c) τ' r (keep_rule (reading bundle) ss ps (spot s c) τ)
 
-abbrev pub RuleKept : Source → Cursor → Tally → List ℕ → List ℕ → Result (Cursor × Tally) Refusal → Type 0
-RuleKept s c n rs rs' r =
-    (bundle : Bytes) (τ : Lent) (ss : List Selector) (ps : List Property)
-    → Reads bundle s (left bundle s c) (at_body τ rs' τ.properties τ.numbers) r
-    (keep_rule (reading bundle) ss ps (spot s c) (at_body τ rs τ.properties τ.numbers n))
-
--- the colours are Γ; from the tables τ to the others
-abbrev pub BodyRead : Bytes → Source → Cursor → Colors → Lent → (Tally → Lent) → Result (Cursor × Tally) Refusal → Type 0
-BodyRead bundle s c Γ τ tables r =
+-- the colours are Γ
+abbrev pub BodyRead : Bytes → Source → Cursor → Colors → Lent → Lent → Result Cursor Refusal → Type 0
+BodyRead bundle s c Γ τ τ' r =
     (k : ℕ) (ss : List Selector)
     → left bundle s c < k
-    → Reads bundle s (left bundle s c) tables r (read_body (reading bundle) k Γ ss (spot s c) τ)
+    → Reads bundle s (left bundle s c) τ' r (read_body (reading bundle) k Γ ss (spot s c) τ)
 
-abbrev pub BlockRead : Bytes → Source → Cursor → Tally → List ℕ → List ℕ → Result (Cursor × Tally) Refusal → Type 0
-BlockRead bundle s c n rs rs' r =
-    (τ : Lent) (k : ℕ)
-    → left bundle s c < k
-    → Reads bundle s (left bundle s c) (at_body τ rs' τ.properties τ.numbers) r
-    (read_block (reading bundle) k (spot s c) (at_body τ rs τ.properties τ.numbers n))
-
--- at the start t of a selector, which begins at o, from the tables τ to the others; the colours are those of the table
-abbrev pub RuleRead : Bytes → Source → Token → Place → Cursor → Lent → (Tally → Lent) → Result (Cursor × Tally) Refusal → Type 0
-RuleRead bundle s t o c τ tables r =
+abbrev pub BlockRead : Bytes → Source → Cursor → Lent → Lent → Result Cursor Refusal → Type 0
+BlockRead bundle s c τ τ' r =
     (k : ℕ)
     → left bundle s c < k
-    → Reads bundle s (left bundle s c) tables r
+    → Reads bundle s (left bundle s c) τ' r (read_block (reading bundle) k (spot s c) τ)
+
+-- at the start t of a selector, which begins at o; the colours are those of the table
+abbrev pub RuleRead : Bytes → Source → Token → Place → Cursor → Lent → Lent → Result Cursor Refusal → Type 0
+RuleRead bundle s t o c τ τ' r =
+    (k : ℕ)
+    → left bundle s c < k
+    → Reads bundle s (left bundle s c) τ' r
     (read_rule (reading bundle) (suc k) (colors_of bundle τ.colors τ.tally.colors) τ (token_of bundle t) o (spot s c))

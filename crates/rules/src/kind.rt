@@ -25,8 +25,7 @@ fn type_of(name: &[u8]) -> Option<ObjectKind>
         b"canvas" => Some(ObjectKind::Canvas),
         b"meta" => Some(ObjectKind::Meta),
         b"node" => Some(ObjectKind::Node),
-        b"way" => Some(ObjectKind::Way),
-        b"line" => Some(ObjectKind::Way),
+        b"way" | b"line" => Some(ObjectKind::Way),
         b"area" => Some(ObjectKind::Area),
         _ => None,
     }
@@ -45,13 +44,9 @@ pub fn skip_colors(text: Text, c: Cursor) -> Result<Cursor, Refusal>
     let mut at = c;
     loop {
         let (t, _, d) = text.read_mandatory_token(at)?;
-        match t {
-            Token::RightBrace => {
-                return Ok(d);
-            }
-            _ => {
-                at = d;
-            }
+        if t == Token::RightBrace {
+            return Ok(d);
         }
+        at = d;
     }
 }

@@ -2,7 +2,7 @@
 #![tactic(auto)]
 
 ghost use Rattle.std.specs.Prelude.{◌≡◌};
-ghost use Rattle.keep.specs.Lent.{colors_of, lent_in, lends};
+ghost use Rattle.keep.specs.Lent.{colors_of, lent_in, beside_selectors, beside_rules};
 ghost use Rattle.table.specs.Kind.{object_number};
 ghost use Rattle.rules.specs.Rules.{PartRead, AfterColon, AfterColons, SelectorKept, SelectorRead, NextRead, ChoiceRead, StartRead, WordStart, RuleKept, BodyRead, BlockRead, RuleRead};
 
@@ -11,9 +11,9 @@ use base::refusal::{OBJECT_TYPE, PARSE, RULES, Refusal, SELECTORS, TABLE_FULL, U
 use cursor::Cursor;
 use input::tokens::{refuse, refuse_reached};
 use input::{Place, Source, Text};
-use keep::{Store, Tally, keep_rule, keep_selector};
+use keep::Store;
 use kind::{is_colors, object_type, skip_colors};
-use properties::{Known, read_properties};
+use properties::read_properties;
 use table::kind::ObjectKind;
 use tests::read_test;
 use token_kind::Token;
@@ -78,15 +78,15 @@ fn store_selector(
     layer: Option<Range>,
     more: bool,
     c: Cursor,
-    n: Tally,
-    selectors: &mut [u32],
-) -> Result<(bool, Cursor, Tally), Refusal>
-    ensures { SelectorKept source (object_number kind) min max layer more c n selectors.old selectors.new result }
+    store: &mut Store<'_>,
+) -> Result<(bool, Cursor), Refusal>
+    ensures read { SelectorKept source (object_number kind) min max layer more c (lent_in store.old) (lent_in store.new) result }
+    ensures beside { beside_selectors store.new ≡ beside_selectors store.old }
 {
-    let m = keep_selector(selectors, n, kind.number(), min, max, layer).ok_or(refuse_reached(
-        TABLE_FULL, SELECTORS, source, c,
-    ))?;
-    Ok((more, c, m))
+    store
+        .keep_selector(kind.number(), min, max, layer)
+        .ok_or(refuse_reached(TABLE_FULL, SELECTORS, source, c))?;
+    Ok((more, c))
 }
 
 // Behind the object type of a selector.
@@ -94,42 +94,32 @@ fn read_selector(
     text: Text,
     kind: ObjectKind,
     c: Cursor,
-    n: Tally,
-    selectors: &mut [u32],
-    tests: &mut [u32],
-    numbers: &mut [f64],
-) -> Result<(bool, Cursor, Tally), Refusal>
-    ensures { SelectorRead text.entry.bundle.now text.entry.source (object_number kind) c n selectors.old tests.old numbers.old selectors.new tests.new numbers.new result }
+    store: &mut Store<'_>,
+) -> Result<(bool, Cursor), Refusal>
+    ensures read { SelectorRead text.entry.bundle.now text.entry.source (object_number kind) c (lent_in store.old) (lent_in store.new) result }
+    ensures beside { beside_selectors store.new ≡ beside_selectors store.old }
 {
     let mut min = None;
     let mut max = None;
     let mut layer = None;
     let mut at = c;
-    let mut k = n;
     loop {
-        let part = read_part(text, at)?;
-        match part {
+        at = match read_part(text, at)? {
             Part::Closing(more, d) => {
-                return store_selector(text.source, kind, min, max, layer, more, d, k, selectors);
+                return store_selector(text.source, kind, min, max, layer, more, d, store);
             }
             Part::Zoom(a, b, d) => {
                 min = a;
                 max = b;
-                at = d;
+                d
             }
-            Part::Bracket(d) => {
-                let (f, m) = read_test(text, d, k, tests, numbers)?;
-                at = f;
-                k = m;
-            }
-            Part::Class(d) => {
-                at = d;
-            }
+            Part::Bracket(d) => read_test(text, d, store)?,
+            Part::Class(d) => d,
             Part::Layer(a, d) => {
                 layer = Some(a);
-                at = d;
+                d
             }
-        }
+        };
     }
 }
 
@@ -138,30 +128,24 @@ fn read_choice(
     text: Text,
     kind: ObjectKind,
     c: Cursor,
-    n: Tally,
-    selectors: &mut [u32],
-    tests: &mut [u32],
-    numbers: &mut [f64],
-) -> Result<(Option<(Token, Place)>, Cursor, Tally), Refusal>
-    ensures { ChoiceRead text.entry.bundle.now text.entry.source (object_number kind) c n selectors.old tests.old numbers.old selectors.new tests.new numbers.new result }
+    store: &mut Store<'_>,
+) -> Result<(Option<(Token, Place)>, Cursor), Refusal>
+    ensures read { ChoiceRead text.entry.bundle.now text.entry.source (object_number kind) c (lent_in store.old) (lent_in store.new) result }
+    ensures beside { beside_selectors store.new ≡ beside_selectors store.old }
 {
-    let (more, d, m) = read_selector(text, kind, c, n, selectors, tests, numbers)?;
+    let (more, d) = read_selector(text, kind, c, store)?;
     if more {
-        return next_choice(text, d, m);
+        return next_choice(text, d);
     }
-    Ok((None, d, m))
+    Ok((None, d))
 }
 
 // The first token of the next selector.
-fn next_choice(
-    text: Text,
-    c: Cursor,
-    n: Tally,
-) -> Result<(Option<(Token, Place)>, Cursor, Tally), Refusal>
-    ensures { NextRead text.entry.bundle.now text.entry.source c n result }
+fn next_choice(text: Text, c: Cursor) -> Result<(Option<(Token, Place)>, Cursor), Refusal>
+    ensures { NextRead text.entry.bundle.now text.entry.source c result }
 {
     let (t, o, d) = text.read_mandatory_token(c)?;
-    Ok((Some((t, o)), d, n))
+    Ok((Some((t, o)), d))
 }
 
 // A name at the start of a selector.
@@ -186,50 +170,32 @@ fn rule_start(bundle: &[u8], t: Token, o: Place) -> Result<Start, Refusal>
 }
 
 // Stores a rule with the selectors and properties that no rule has.
-fn store_rule(
-    source: Source,
-    c: Cursor,
-    n: Tally,
-    rules: &mut [u32],
-) -> Result<(Cursor, Tally), Refusal>
-    ensures { RuleKept source c n rules.old rules.new result }
+fn store_rule(source: Source, c: Cursor, store: &mut Store<'_>) -> Result<Cursor, Refusal>
+    ensures read { RuleKept source c (lent_in store.old) (lent_in store.new) result }
+    ensures beside { beside_rules store.new ≡ beside_rules store.old }
 {
-    let m = keep_rule(rules, n).ok_or(refuse_reached(TABLE_FULL, RULES, source, c))?;
-    Ok((c, m))
+    store
+        .keep_rule()
+        .ok_or(refuse_reached(TABLE_FULL, RULES, source, c))?;
+    Ok(c)
 }
 
 // Behind the opening brace of a rule.
-fn read_body(
-    text: Text,
-    c: Cursor,
-    n: Tally,
-    store: &mut Store<'_>,
-    known: usize,
-) -> Result<(Cursor, Tally), Refusal>
-    ensures read { BodyRead text.entry.bundle.now text.entry.source c (colors_of text.entry.bundle.now store.old.colors.now known) (lent_in n store.old) (λ m. lent_in m store.new) result }
-    ensures colors { store.new.colors.now ≡ store.old.colors.now }
-    ensures lends { lends store.new ≡ lends store.old }
+fn read_body(text: Text, c: Cursor, store: &mut Store<'_>, known: usize) -> Result<Cursor, Refusal>
+    ensures read { BodyRead text.entry.bundle.now text.entry.source c (colors_of text.entry.bundle.now store.old.colors.now known) (lent_in store.old) (lent_in store.new) result }
+    ensures beside { beside_rules store.new ≡ beside_rules store.old }
 {
-    let colors = &mut *store.colors;
-    let known = Known {
-        colors: &colors[..],
-        n: known,
-    };
-    let (d, m) = read_properties(text, c, n, store.properties, store.numbers, known)?;
-    store_rule(text.source, d, m, store.rules)
+    let d = read_properties(text, c, store, known)?;
+    store_rule(text.source, d, store)
 }
 
 // Behind the word colors.
-fn read_block(
-    text: Text,
-    c: Cursor,
-    n: Tally,
-    rules: &mut [u32],
-) -> Result<(Cursor, Tally), Refusal>
-    ensures { BlockRead text.entry.bundle.now text.entry.source c n rules.old rules.new result }
+fn read_block(text: Text, c: Cursor, store: &mut Store<'_>) -> Result<Cursor, Refusal>
+    ensures read { BlockRead text.entry.bundle.now text.entry.source c (lent_in store.old) (lent_in store.new) result }
+    ensures beside { beside_rules store.new ≡ beside_rules store.old }
 {
     let d = skip_colors(text, c)?;
-    store_rule(text.source, d, n, rules)
+    store_rule(text.source, d, store)
 }
 
 // From the first token of a rule on, which begins at o.
@@ -238,44 +204,32 @@ pub fn read_rule(
     t: Token,
     o: Place,
     c: Cursor,
-    n: Tally,
     store: &mut Store<'_>,
-) -> Result<(Cursor, Tally), Refusal>
-    ensures read { RuleRead text.entry.bundle.now text.entry.source t o c (lent_in n store.old) (λ m. lent_in m store.new) result }
-    ensures colors { store.new.colors.now ≡ store.old.colors.now }
-    ensures lends { lends store.new ≡ lends store.old }
+) -> Result<Cursor, Refusal>
+    ensures read { RuleRead text.entry.bundle.now text.entry.source t o c (lent_in store.old) (lent_in store.new) result }
+    ensures beside { beside_rules store.new ≡ beside_rules store.old }
 {
-    let known = n.colors;
+    let known = store.tally.colors;
     let mut first = t;
     let mut begins = o;
     let mut at = c;
-    let mut k = n;
     loop {
         let start = rule_start(text.bundle, first, begins)?;
         match start {
             Start::Body => {
-                return read_body(text, at, k, store, known);
+                return read_body(text, at, store, known);
             }
             Start::ColorsBlock => {
-                return read_block(text, at, k, store.rules);
+                return read_block(text, at, store);
             }
             Start::Object(kind) => {
-                let (next, d, m) = read_choice(
-                    text,
-                    kind,
-                    at,
-                    k,
-                    store.selectors,
-                    store.tests,
-                    store.numbers,
-                )?;
+                let (next, d) = read_choice(text, kind, at, store)?;
                 let Some((u, p)) = next else {
-                    return read_body(text, d, m, store, known);
+                    return read_body(text, d, store, known);
                 };
                 first = u;
                 begins = p;
                 at = d;
-                k = m;
             }
         }
     }

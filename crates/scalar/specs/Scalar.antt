@@ -1,5 +1,5 @@
 -- Unicode's scalar values, and their bytes by table 3-6, "UTF-8 Bit Distribution".
-use Rattle.std.specs.Prelude.{ℕ, ◌+◌, ◌/◌, ◌%◌, Bool, ◌&&◌, ◌||◌, [], ◌∷◌, length, ltb, leb}
+use Rattle.std.specs.Prelude.{ℕ, ◌+◌, ◌/◌, ◌%◌, Bool, ◌&&◌, ◌||◌, [], ◌∷◌, length, ltb, leb, Option, Some, None}
 use Rattle.base.specs.Bytes.{Bytes}
 use Rattle.base.specs.Choice.{pick}
 use Rattle.base.specs.Table.{padded}
@@ -17,9 +17,10 @@ encode_of k =
     (pick (ltb k 0x10000) ((0xE0 + k / 4096) ∷ (0x80 + k / 64 % 64) ∷ (0x80 + k % 64) ∷ [])
     ((0xF0 + k / 262144) ∷ (0x80 + k / 4096 % 64) ∷ (0x80 + k / 64 % 64) ∷ (0x80 + k % 64) ∷ [])))
 
--- the bytes in the first places of four, and none for a number that is no character
+-- the bytes in the first places of four
 unfoldable pub scalar_encoding : ℕ → Encoding
 scalar_encoding k = record { bytes = padded 0 4 (encode_of k); width = length (encode_of k) }
 
-unfoldable pub encoding_of : ℕ → Encoding
-encoding_of k = pick (is_scalar k) (scalar_encoding k) (record { bytes = 0 ∷ 0 ∷ 0 ∷ 0 ∷ []; width = 0 })
+-- a number that is no character has none
+unfoldable pub encoding_of : ℕ → Option Encoding
+encoding_of k = pick (is_scalar k) (Some (scalar_encoding k)) None

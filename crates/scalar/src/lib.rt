@@ -11,27 +11,22 @@ pub struct Encoding {
     pub width: usize,
 }
 
-// The encoding of a scalar value; of width 0 for any other number.
-pub fn encode(k: u32) -> Encoding
+// The encoding of a scalar value; no other number has one.
+pub fn encode(k: u32) -> Option<Encoding>
     ensures { result ≡ encoding_of k }
 {
     if is_scalar(k) {
-        return encode_scalar(k);
+        return Some(encode_scalar(k));
     }
-    Encoding {
-        bytes: [0, 0, 0, 0],
-        width: 0,
-    }
+    None
 }
 
 // Whether a number is a character: no surrogate, and nothing over U+10FFFF.
+#[tactic(auto, unfolding(crate::specs::Scalar::is_scalar))]
 pub fn is_scalar(k: u32) -> bool
     ensures { result ≡ is_scalar k }
 {
-    if k < 0xD800 {
-        return true;
-    }
-    0xE000 <= k && k < 0x110000
+    matches!(k, 0..=0xD7FF | 0xE000..=0x10FFFF)
 }
 
 fn encode_scalar(k: u32) -> Encoding

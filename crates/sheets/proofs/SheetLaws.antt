@@ -6,7 +6,6 @@ use mathlib.Core.Bool.{not}
 use mathlib.Core.List.{List, [], ◌∷◌, ◌++◌}
 use mathlib.Core.Option.{none, some}
 use lib.Dec.{T}
-use lib.Ieee.{Float}
 use types.Run.{OneOf}
 use mir.Val.{has_key}
 use denote.Enum.Declared.{tag_of}
@@ -29,13 +28,13 @@ use Rattle.grammar.specs.Reading.{Reading, rule_item}
 use Rattle.grammar.specs.View.{color_of}
 use Rattle.grammar.specs.Reader.{keep_color, parse, import_file}
 use Rattle.grammar.specs.Input.{color_entry, Answer, refused, read, broken, end, token, on_next, on_option, after, keep}
-use Rattle.keep.specs.Lent.{Lent, lent, keep_color_of, taken, put_entry}
+use Rattle.keep.specs.Lent.{Lent, color_kept, put_entry}
+use Rattle.keep.proofs.KeepLaws.{is_full, is_put}
 use Rattle.keep.specs.Source.{reading}
 use Rattle.input.specs.Source.{Spot, spot, source, next_at}
 use Rattle.input.specs.Text.{name_in, token_of, left, next_of, expect_of, place, refusal_at, reached_at, error_at}
 use Rattle.input.specs.declared.Place.{Place}
 use Rattle.input.specs.declared.Source.{Source}
-use Rattle.keep.specs.declared.Tally.{Tally}
 use Rattle.input.proofs.Fuel.{next_moves}
 use Rattle.input.proofs.TokenLaws.{others, not_color}
 use Rattle.properties.specs.Answers.{Leads, stops, leads}
@@ -47,32 +46,26 @@ use Rattle.keep.proofs.Laws.{option_none, option_some, another, beyond}
 use Rattle.properties.proofs.ValueLaws.{after_refused, after_done, lead_stop, lead_on}
 use Rattle.properties.proofs.Turns.{Goes, goes_start, goes_end, goes_on}
 use Rattle.std.specs.Prelude.{Some, None, Result, Ok, Err, Option}
-use Rattle.base.specs.Option.{on_option as on_option', with_option, on_option2, on_result}
+use Rattle.base.specs.Option.{on_option as on_option', on_option2, on_result}
 
 -- ---- storing a colour
 
 module _ {A : Type 0} (Q : Answer A Spot Lent Refusal → Type 0) (bundle : Bytes) (s : Source) where
   pub no_room_color :
-      (name : Range) (x : Color) (c : Cursor) (τ : Lent) (k : Lent → Answer A Spot Lent Refusal) {u : List ℕ}
-      → keep_color_of bundle τ.tally τ.colors (within name bundle) name x ≡ (None, u)
+      (name : Range) (x : Color) (c : Cursor) (τ : Lent) (k : Lent → Answer A Spot Lent Refusal) {τ' : Lent}
+      → color_kept bundle τ (within name bundle) name x ≡ (None, τ')
       → Q (refused (refusal_at 20 6 (reached_at s c)) τ)
       → Q (keep (reading bundle) (color_entry (name_in bundle name) x) (spot s c) τ k)
-  unfolding put_entry taken with_option on_option on_option'
-  no_room_color name x c τ k e q =
-      option_none Q _ _ k
-      (ap (λ y. taken y λ n t. lent n τ.rules τ.selectors τ.tests τ.properties τ.numbers t) e)
-      q
+  unfolding put_entry color_kept
+  no_room_color name x c τ k e q = option_none Q _ _ k (is_full _ _ _ e) q
 
   pub room_color :
-      (name : Range) (x : Color) (c : Cursor) (τ : Lent) (k : Lent → Answer A Spot Lent Refusal) {n : Tally} {u : List ℕ}
-      → keep_color_of bundle τ.tally τ.colors (within name bundle) name x ≡ (Some n, u)
-      → Q (k (lent n τ.rules τ.selectors τ.tests τ.properties τ.numbers u))
+      (name : Range) (x : Color) (c : Cursor) (τ : Lent) (k : Lent → Answer A Spot Lent Refusal) {y : Unit} {τ' : Lent}
+      → color_kept bundle τ (within name bundle) name x ≡ (Some y, τ')
+      → Q (k τ')
       → Q (keep (reading bundle) (color_entry (name_in bundle name) x) (spot s c) τ k)
-  unfolding put_entry taken with_option on_option on_option'
-  room_color name x c τ k e q =
-      option_some Q _ _ k
-      (ap (λ y. taken y λ n t. lent n τ.rules τ.selectors τ.tests τ.properties τ.numbers t) e)
-      q
+  unfolding put_entry color_kept
+  room_color name x c τ k e q = option_some Q _ _ k (is_put _ _ _ e) q
 
   -- a value that is known
   pub defined_as :
@@ -218,25 +211,25 @@ module _ {A : Type 0} (Q : Answer A Spot Lent Refusal → Type 0) {bundle : Byte
 
 -- ---- what a whole text has read
 
-module _ {B : Type 0} (Q : Answer B Spot Lent Refusal → Type 0) {tables : Tally → Lent} {r : Result Tally Refusal} {a : Answer Reading Spot Lent Refusal} (k : Reading → Spot → Lent → Answer B Spot Lent Refusal) (h : Parses tables r a) where
+module _ {B : Type 0} (Q : Answer B Spot Lent Refusal → Type 0) {then : Lent} {r : Result Unit Refusal} {a : Answer Reading Spot Lent Refusal} (k : Reading → Spot → Lent → Answer B Spot Lent Refusal) (h : Parses then r a) where
   after_stopped : {e : Refusal} → r ≡ Err e → ((e' : Refusal) (τ : Lent) → e ≡ e' → Q (refused e' τ)) → Q (after a k)
   unfolding after
   after_stopped {e} = go h
     where
-      go : {r : Result Tally Refusal} {a : Answer Reading Spot Lent Refusal} → Parses tables r a → r ≡ Err e → ((e' : Refusal) (τ : Lent) → e ≡ e' → Q (refused e' τ)) → Q (after a k)
+      go : {r : Result Unit Refusal} {a : Answer Reading Spot Lent Refusal} → Parses then r a → r ≡ Err e → ((e' : Refusal) (τ : Lent) → e ≡ e' → Q (refused e' τ)) → Q (after a k)
       go (stopped {e = x} {e' = y} {τ = τ} p) q f = let z : x ≡ e = cc in f y τ (sym z ∙ p)
       go ended q f = different cc
 
-  after_ended : {n : Tally} → r ≡ Ok n → ((x : Reading) (p : Spot) → Q (k x p (tables n))) → Q (after a k)
+  after_ended : {u : Unit} → r ≡ Ok u → ((x : Reading) (p : Spot) → Q (k x p then)) → Q (after a k)
   unfolding after
-  after_ended {n} = go h
+  after_ended {u} = go h
     where
-      go : {r : Result Tally Refusal} {a : Answer Reading Spot Lent Refusal} → Parses tables r a → r ≡ Ok n → ((x : Reading) (p : Spot) → Q (k x p (tables n))) → Q (after a k)
+      go : {r : Result Unit Refusal} {a : Answer Reading Spot Lent Refusal} → Parses then r a → r ≡ Ok u → ((x : Reading) (p : Spot) → Q (k x p then)) → Q (after a k)
       go (stopped p) q f = different cc
-      go (ended {js = js} {p = p} {n = m}) q f = let z : n ≡ m = cc in subst (λ m. Q (k js p (tables m))) z (f js p)
+      go (ended {js = js} {p = p}) q f = f js p
 
 -- what is read behind a statement, with the statement before it
-before_parses : {tables : Tally → Lent} {r : Result Tally Refusal} (js : Reading) (a : Answer Reading Spot Lent Refusal) → Parses tables r a → Parses tables r (after a λ ks c τ. read (js ++ ks) c τ)
+before_parses : {then : Lent} {r : Result Unit Refusal} (js : Reading) (a : Answer Reading Spot Lent Refusal) → Parses then r a → Parses then r (after a λ ks c τ. read (js ++ ks) c τ)
 unfolding after
 before_parses js a (stopped e) = stopped e
 before_parses js a ended = ended
@@ -283,80 +276,79 @@ module _ (Q : Answer Reading Spot Lent Refusal → Type 0) (bundle : Bytes) (s :
       let e : suc k - 1 ≡ k = omega arith in
       subst (λ n. Q (after (parse (reading bundle) (import_file (reading bundle) n) (suc (left bundle (source number range) start)) (spot (source number range) start) τ) K)) e q
 
-module _ (bundle : Bytes) (s : Source) (name : Range) (c : Cursor) (depth : ℕ) (τ : Lent) (tables : Tally → Lent) where
-  pub import_another : {e : Refusal} → expect_of bundle semi_colon s c ≡ Err e → ImportRead bundle name s c depth τ tables (Err e)
-  import_another h K = another (Leads bundle s (left bundle s c) tables K _) bundle s semi_colon c τ _ h (stops refl)
+module _ (bundle : Bytes) (s : Source) (name : Range) (c : Cursor) (depth : ℕ) (τ : Lent) (then : Lent) where
+  pub import_another : {e : Refusal} → expect_of bundle semi_colon s c ≡ Err e → ImportRead bundle name s c depth τ then (Err e)
+  import_another h K = another (Leads bundle s (left bundle s c) then K _) bundle s semi_colon c τ _ h (stops refl)
 
   module _ {d : Cursor} {w : Bytes} (h : expect_of bundle semi_colon s c ≡ Ok d) (u : w ≡ within name bundle) where
-    pub import_missing : {e : Refusal} → find_of bundle w ≡ None → e ≡ refusal_at 5 0 (reached_at s d) → ImportRead bundle name s c depth τ tables (Err e)
+    pub import_missing : {e : Refusal} → find_of bundle w ≡ None → e ≡ refusal_at 5 0 (reached_at s d) → ImportRead bundle name s c depth τ then (Err e)
     import_missing f x K =
-        beyond (Leads bundle s (left bundle s c) tables K _) bundle s semi_colon c τ _ h λ m.
-        by_found (Leads bundle s (left bundle s c) tables K _) bundle s name d τ _ depth f u
-        (missing (Leads bundle s (left bundle s c) tables K _) bundle s name d τ _ depth (stops x))
+        beyond (Leads bundle s (left bundle s c) then K _) bundle s semi_colon c τ _ h λ m.
+        by_found (Leads bundle s (left bundle s c) then K _) bundle s name d τ _ depth f u
+        (missing (Leads bundle s (left bundle s c) then K _) bundle s name d τ _ depth (stops x))
 
     module _ {number : ℕ} {range : Range} (f : find_of bundle w ≡ Some (number, range)) where
-      pub import_deep : {e : Refusal} → depth ≡ 0 → e ≡ refusal_at 21 0 (reached_at s d) → ImportRead bundle name s c depth τ tables (Err e)
+      pub import_deep : {e : Refusal} → depth ≡ 0 → e ≡ refusal_at 21 0 (reached_at s d) → ImportRead bundle name s c depth τ then (Err e)
       import_deep z x K =
-          beyond (Leads bundle s (left bundle s c) tables K _) bundle s semi_colon c τ _ h λ m.
-          by_found (Leads bundle s (left bundle s c) tables K _) bundle s name d τ _ depth f u
-          (too_deep_lem (Leads bundle s (left bundle s c) tables K _) bundle s name d τ _ depth number range z (stops x))
+          beyond (Leads bundle s (left bundle s c) then K _) bundle s semi_colon c τ _ h λ m.
+          by_found (Leads bundle s (left bundle s c) then K _) bundle s name d τ _ depth f u
+          (too_deep_lem (Leads bundle s (left bundle s c) then K _) bundle s name d τ _ depth number range z (stops x))
 
       pub import_stopped :
-          {r : Result Tally Refusal} {e : Refusal}
+          {r : Result Unit Refusal} {e : Refusal}
           → (depth ≡ 0 → ⊥)
-          → SheetRead bundle (source number range) (depth - 1) τ tables r
+          → SheetRead bundle (source number range) (depth - 1) τ then r
           → r ≡ Err e
-          → ImportRead bundle name s c depth τ tables (Err e)
+          → ImportRead bundle name s c depth τ then (Err e)
       import_stopped z p x K =
-          beyond (Leads bundle s (left bundle s c) tables K _) bundle s semi_colon c τ _ h λ m.
-          by_found (Leads bundle s (left bundle s c) tables K _) bundle s name d τ _ depth f u
-          (deeper (Leads bundle s (left bundle s c) tables K _) bundle s name d τ _ depth number range z
-          (after_stopped (Leads bundle s (left bundle s c) tables K _) _ p x λ e τ q. stops q))
+          beyond (Leads bundle s (left bundle s c) then K _) bundle s semi_colon c τ _ h λ m.
+          by_found (Leads bundle s (left bundle s c) then K _) bundle s name d τ _ depth f u
+          (deeper (Leads bundle s (left bundle s c) then K _) bundle s name d τ _ depth number range z
+          (after_stopped (Leads bundle s (left bundle s c) then K _) _ p x λ e τ q. stops q))
 
       pub import_ended :
-          {r : Result Tally Refusal} {n : Tally}
+          {r : Result Unit Refusal} {u : Unit}
           → (depth ≡ 0 → ⊥)
-          → SheetRead bundle (source number range) (depth - 1) τ tables r
-          → r ≡ Ok n
-          → ImportRead bundle name s c depth τ tables (Ok (d, n))
+          → SheetRead bundle (source number range) (depth - 1) τ then r
+          → r ≡ Ok u
+          → ImportRead bundle name s c depth τ then (Ok d)
       import_ended z p x K =
-          beyond (Leads bundle s (left bundle s c) tables K _) bundle s semi_colon c τ _ h λ m.
-          by_found (Leads bundle s (left bundle s c) tables K _) bundle s name d τ _ depth f u
-          (deeper (Leads bundle s (left bundle s c) tables K _) bundle s name d τ _ depth number range z
-          (after_ended (Leads bundle s (left bundle s c) tables K _) _ p x λ js q. leads js d (omega arith)))
+          beyond (Leads bundle s (left bundle s c) then K _) bundle s semi_colon c τ _ h λ m.
+          by_found (Leads bundle s (left bundle s c) then K _) bundle s name d τ _ depth f u
+          (deeper (Leads bundle s (left bundle s c) then K _) bundle s name d τ _ depth number range z
+          (after_ended (Leads bundle s (left bundle s c) then K _) _ p x λ js q. leads js d (omega arith)))
 
 -- ---- each statement takes a byte at least
 
 module _ (bundle : Bytes) (s : Source) where
   pub import_less :
-      (depth : ℕ) (at : Cursor) (τ : Lent) {st : Result Statement Refusal} {a : Range} {d f : Cursor} {r : Result (Cursor × Tally) Refusal} {m : Tally} {tables : Tally → Lent}
+      (depth : ℕ) (at : Cursor) (τ : Lent) {st : Result Statement Refusal} {a : Range} {d f : Cursor} {r : Result Cursor Refusal} {then : Lent}
       → StatementRead bundle s at st
       → st ≡ Ok (ImportOf a d)
-      → ImportRead bundle a s d depth τ tables r
-      → r ≡ Ok (f, m)
+      → ImportRead bundle a s d depth τ then r
+      → r ≡ Ok f
       → left bundle s f < left bundle s at
   import_less depth at τ {f = f} h x i y =
       statement_import (λ z. left bundle s f < left bundle s at) (h τ (λ d. read [] d τ) (λ n d. read [] d τ) (λ n d. read [] d τ) (λ t o d. read [] d τ)) x λ l.
       lead_on (λ z. left bundle s f < left bundle s at) (i λ js e τ. read [] e τ) y λ js v. omega arith
 
   pub color_less :
-      (at : Cursor) (n : Tally) (cs : List ℕ) {cs' : List ℕ} {st : Result Statement Refusal} {a : Range} {d f : Cursor} {r : Result (Cursor × Tally) Refusal} {m : Tally}
+      (at : Cursor) (τ : Lent) {then : Lent} {st : Result Statement Refusal} {a : Range} {d f : Cursor} {r : Result Cursor Refusal}
       → StatementRead bundle s at st
       → st ≡ Ok (ColorOf a d)
-      → DefinitionRead bundle s a d n cs cs' r
-      → r ≡ Ok (f, m)
+      → DefinitionRead bundle s a d τ then r
+      → r ≡ Ok f
       → left bundle s f < left bundle s at
-  color_less at n cs {f = f} h x i y =
-      let τ = lent n [] [] [] [] [] cs in
+  color_less at τ {f = f} h x i y =
       statement_color (λ z. left bundle s f < left bundle s at) (h τ (λ d. read [] d τ) (λ n d. read [] d τ) (λ n d. read [] d τ) (λ t o d. read [] d τ)) x λ l.
-      after_done {B = Reading} (λ z. left bundle s f < left bundle s at) (λ js e τ. read [] e τ) (i τ) y λ js v. omega arith
+      after_done {B = Reading} (λ z. left bundle s f < left bundle s at) (λ js e τ. read [] e τ) i y λ js v. omega arith
 
   pub rule_less :
-      (at : Cursor) (τ : Lent) {st : Result Statement Refusal} {t : Token} {o : Place} {d f : Cursor} {r : Result (Cursor × Tally) Refusal} {m : Tally} {tables : Tally → Lent}
+      (at : Cursor) (τ : Lent) {st : Result Statement Refusal} {t : Token} {o : Place} {d f : Cursor} {r : Result Cursor Refusal} {then : Lent}
       → StatementRead bundle s at st
       → st ≡ Ok (RuleAt t o d)
-      → RuleRead bundle s t o d τ tables r
-      → r ≡ Ok (f, m)
+      → RuleRead bundle s t o d τ then r
+      → r ≡ Ok f
       → left bundle s f < left bundle s at
   rule_less at τ {d = d} {f = f} h x i y =
       statement_rule (λ z. left bundle s f < left bundle s at) (h τ (λ d. read [] d τ) (λ n d. read [] d τ) (λ n d. read [] d τ) (λ t o d. read [] d τ)) x λ l.
@@ -379,24 +371,24 @@ module _ (bundle : Bytes) (s : Source) (depth : ℕ) (τ₀ : Lent) where
       subst (λ at. Parsing at τ₀) (sym e)
       (goes_start (λ b t r a. Parses t r a) bundle s start (λ f. parse (reading bundle) (import_file (reading bundle) depth) f (spot s start) τ₀) (suc (left bundle s start)) (omega arith))
 
-  pub parse_bad : (at : Cursor) (τ : Lent) {st : Result Statement Refusal} {e : Refusal} {tables : Tally → Lent} → Parsing at τ → StatementRead bundle s at st → st ≡ Err e → Parses tables (Err e) whole_of
+  pub parse_bad : (at : Cursor) (τ : Lent) {st : Result Statement Refusal} {e : Refusal} {then : Lent} → Parsing at τ → StatementRead bundle s at st → st ≡ Err e → Parses then (Err e) whole_of
   unfolding parse
   parse_bad at τ g h x = goes_end (λ b t r a. Parses t r a) bundle s _ _ at _ g λ k l. statement_bad (Parses _ _) (h _ _ _ _ _) x λ e τ p. stopped p
 
-  pub parse_ends : (at : Cursor) {st : Result Statement Refusal} {n : Tally} {tables : Tally → Lent} → Parsing at (tables n) → StatementRead bundle s at st → st ≡ Ok EndOfText → Parses tables (Ok n) whole_of
+  pub parse_ends : (at : Cursor) {st : Result Statement Refusal} {then : Lent} → Parsing at then → StatementRead bundle s at st → st ≡ Ok EndOfText → Parses then (Ok tt) whole_of
   unfolding parse
   parse_ends at g h x = goes_end (λ b t r a. Parses t r a) bundle s _ _ at _ g λ k l. statement_end (Parses _ _) (h _ _ _ _ _) x λ d. ended
 
   -- an import
-  module _ (at : Cursor) (τ : Lent) {st : Result Statement Refusal} {a : Range} {d : Cursor} {r : Result (Cursor × Tally) Refusal} {tables : Tally → Lent} (h : StatementRead bundle s at st) (x : st ≡ Ok (ImportOf a d)) (i : ImportRead bundle a s d depth τ tables r) where
-    pub import_stops : {e : Refusal} {others : Tally → Lent} → Parsing at τ → r ≡ Err e → Parses others (Err e) whole_of
+  module _ (at : Cursor) (τ : Lent) {st : Result Statement Refusal} {a : Range} {d : Cursor} {r : Result Cursor Refusal} {then : Lent} (h : StatementRead bundle s at st) (x : st ≡ Ok (ImportOf a d)) (i : ImportRead bundle a s d depth τ then r) where
+    pub import_stops : {e : Refusal} {others : Lent} → Parsing at τ → r ≡ Err e → Parses others (Err e) whole_of
     unfolding parse
     import_stops g y =
         goes_end (λ b t r a. Parses t r a) bundle s _ _ at _ g λ k l.
         statement_import (Parses _ _) (h _ _ _ _ _) x λ m.
         lead_stop (Parses _ _) (i _) y λ e τ p. stopped p
 
-    pub import_on : {f : Cursor} {m : Tally} → Parsing at τ → r ≡ Ok (f, m) → Parsing f (tables m)
+    pub import_on : {f : Cursor} → Parsing at τ → r ≡ Ok f → Parsing f then
     unfolding parse
     import_on {f} g y =
         goes_on (λ b t r a. Parses t r a) bundle s _ _ at f _ _ g (import_less bundle s depth at τ h x i y) λ k l t r q.
@@ -404,31 +396,31 @@ module _ (bundle : Bytes) (s : Source) (depth : ℕ) (τ₀ : Lent) where
         lead_on (Parses _ _) (i _) y λ js l. before_parses js _ q
 
   -- a colour definition
-  module _ (at : Cursor) (n : Tally) (rs ss ts ps : List ℕ) (xs : List Float) (cs : List ℕ) {cs' : List ℕ} {st : Result Statement Refusal} {a : Range} {d : Cursor} {r : Result (Cursor × Tally) Refusal} (h : StatementRead bundle s at st) (x : st ≡ Ok (ColorOf a d)) (i : DefinitionRead bundle s a d n cs cs' r) where
-    pub color_stops : {e : Refusal} {others : Tally → Lent} → Parsing at (lent n rs ss ts ps xs cs) → r ≡ Err e → Parses others (Err e) whole_of
+  module _ (at : Cursor) (τ : Lent) {then : Lent} {st : Result Statement Refusal} {a : Range} {d : Cursor} {r : Result Cursor Refusal} (h : StatementRead bundle s at st) (x : st ≡ Ok (ColorOf a d)) (i : DefinitionRead bundle s a d τ then r) where
+    pub color_stops : {e : Refusal} {others : Lent} → Parsing at τ → r ≡ Err e → Parses others (Err e) whole_of
     unfolding parse
     color_stops g y =
         goes_end (λ b t r a. Parses t r a) bundle s _ _ at _ g λ k l.
         statement_color (Parses _ _) (h _ _ _ _ _) x λ m.
-        after_refused (Parses _ _) _ (i (lent n rs ss ts ps xs cs)) y λ e τ p. stopped p
+        after_refused (Parses _ _) _ i y λ e τ p. stopped p
 
-    pub color_on : {f : Cursor} {m : Tally} → Parsing at (lent n rs ss ts ps xs cs) → r ≡ Ok (f, m) → Parsing f (lent m rs ss ts ps xs cs')
+    pub color_on : {f : Cursor} → Parsing at τ → r ≡ Ok f → Parsing f then
     unfolding parse
     color_on {f} g y =
-        goes_on (λ b t r a. Parses t r a) bundle s _ _ at f _ _ g (color_less bundle s at n cs h x i y) λ k l t r q.
+        goes_on (λ b t r a. Parses t r a) bundle s _ _ at f _ _ g (color_less bundle s at τ h x i y) λ k l t r q.
         statement_color (Parses _ _) (h _ _ _ _ _) x λ m.
-        after_done (Parses _ _) _ (i (lent n rs ss ts ps xs cs)) y λ js l. before_parses js _ q
+        after_done (Parses _ _) _ i y λ js l. before_parses js _ q
 
   -- a rule
-  module _ (at : Cursor) (τ : Lent) {st : Result Statement Refusal} {t : Token} {o : Place} {d : Cursor} {r : Result (Cursor × Tally) Refusal} {tables : Tally → Lent} (h : StatementRead bundle s at st) (x : st ≡ Ok (RuleAt t o d)) (i : RuleRead bundle s t o d τ tables r) where
-    pub rule_stops : {e : Refusal} {others : Tally → Lent} → Parsing at τ → r ≡ Err e → Parses others (Err e) whole_of
+  module _ (at : Cursor) (τ : Lent) {st : Result Statement Refusal} {t : Token} {o : Place} {d : Cursor} {r : Result Cursor Refusal} {then : Lent} (h : StatementRead bundle s at st) (x : st ≡ Ok (RuleAt t o d)) (i : RuleRead bundle s t o d τ then r) where
+    pub rule_stops : {e : Refusal} {others : Lent} → Parsing at τ → r ≡ Err e → Parses others (Err e) whole_of
     unfolding parse
     rule_stops g y =
         goes_end (λ b t r a. Parses t r a) bundle s _ _ at _ g λ k l.
         statement_rule (Parses _ _) (h _ _ _ _ _) x λ m.
         after_refused (Parses _ _) _ (i k (omega arith)) y λ e τ p. stopped p
 
-    pub rule_on : {f : Cursor} {m : Tally} → Parsing at τ → r ≡ Ok (f, m) → Parsing f (tables m)
+    pub rule_on : {f : Cursor} → Parsing at τ → r ≡ Ok f → Parsing f then
     unfolding parse
     rule_on {f} g y =
         goes_on (λ b t r a. Parses t r a) bundle s _ _ at f _ _ g (rule_less bundle s at τ h x i y) λ k l t r q.

@@ -1,5 +1,5 @@
 -- What is promised of colour definitions, statements, imports and sheets.
-use Rattle.std.specs.Prelude.{ℕ, suc, ◌<◌, ◌≡◌, List, Result, Ok, Err}
+use Rattle.std.specs.Prelude.{ℕ, suc, ◌<◌, ◌≡◌, Result, Ok, Err}
 use Rattle.base.specs.Bytes.{Bytes}
 use Rattle.base.specs.declared.Range.{Range}
 use Rattle.base.specs.declared.refusal.Refusal.{Refusal}
@@ -11,13 +11,12 @@ use Rattle.grammar.specs.View.{on_import, on_color_ref}
 use Rattle.grammar.specs.Reading.{Reading}
 use Rattle.grammar.specs.Input.{Answer, refused, read, on_next, after}
 use Rattle.grammar.specs.Reader.{expect_simple_token, definition, keep_color, read_color_def, parse, import_file}
-use Rattle.keep.specs.Lent.{Lent, lent}
+use Rattle.keep.specs.Lent.{Lent}
 use Rattle.keep.specs.Source.{reading}
 use Rattle.input.specs.Source.{Spot, spot}
 use Rattle.input.specs.Text.{left, name_in, token_of}
 use Rattle.input.specs.declared.Place.{Place}
 use Rattle.input.specs.declared.Source.{Source}
-use Rattle.keep.specs.declared.Tally.{Tally}
 use Rattle.keep.specs.Answers.{Reads}
 use Rattle.properties.specs.Answers.{Leads}
 use Rattle.sheets.specs.declared.Statement.{Statement}
@@ -25,22 +24,16 @@ use Rattle.sheets.specs.declared.Statement.TheVariants.{EndOfText, ImportOf, Col
 
 -- ---- colour definitions
 
-abbrev pub at_colors : Lent → List ℕ → Tally → Lent
-at_colors τ cs n = lent n τ.rules τ.selectors τ.tests τ.properties τ.numbers cs
-
--- behind the semicolon of a definition whose value is t
-abbrev pub DefinitionKept : Bytes → Source → Range → Token → Cursor → Tally → List ℕ → List ℕ → Result (Cursor × Tally) Refusal → Type 0
-DefinitionKept bundle s name t c n cs cs' r =
-    (τ : Lent)
-    → Reads bundle s (left bundle s c) (at_colors τ cs') r
-    (keep_color (reading bundle) (name_in bundle name) (token_of bundle t) (spot s c) (at_colors τ cs n) λ τ.
+-- behind the semicolon of a definition whose value is t, from the tables τ to the tables τ'
+abbrev pub DefinitionKept : Bytes → Source → Range → Token → Cursor → Lent → Lent → Result Cursor Refusal → Type 0
+DefinitionKept bundle s name t c τ τ' r =
+    Reads bundle s (left bundle s c) τ' r
+    (keep_color (reading bundle) (name_in bundle name) (token_of bundle t) (spot s c) τ λ τ.
     read (definition (name_in bundle name) (token_of bundle t)) (spot s c) τ)
 
 -- behind its name
-abbrev pub DefinitionRead : Bytes → Source → Range → Cursor → Tally → List ℕ → List ℕ → Result (Cursor × Tally) Refusal → Type 0
-DefinitionRead bundle s name c n cs cs' r =
-    (τ : Lent)
-    → Reads bundle s (left bundle s c) (at_colors τ cs') r (read_color_def (reading bundle) (name_in bundle name) (spot s c) (at_colors τ cs n))
+abbrev pub DefinitionRead : Bytes → Source → Range → Cursor → Lent → Lent → Result Cursor Refusal → Type 0
+DefinitionRead bundle s name c τ τ' r = Reads bundle s (left bundle s c) τ' r (read_color_def (reading bundle) (name_in bundle name) (spot s c) τ)
 
 -- ---- statements
 
@@ -61,20 +54,20 @@ StatementRead bundle s c r =
 
 -- ---- sheets and imports
 
--- the answer of a whole text: the reader's refusal, or its tables
-pub data Parses (tables : Tally → Lent) : Result Tally Refusal → Answer Reading Spot Lent Refusal → Type 0 where
-  stopped : {e e' : Refusal} {τ : Lent} → e ≡ e' → Parses tables (Err e) (refused e' τ)
-  ended : {js : Reading} {p : Spot} {n : Tally} → Parses tables (Ok n) (read js p (tables n))
+-- the answer of a whole text: the reader's refusal, or nothing beside its tables
+pub data Parses (then : Lent) : Result Unit Refusal → Answer Reading Spot Lent Refusal → Type 0 where
+  stopped : {e e' : Refusal} {τ : Lent} → e ≡ e' → Parses then (Err e) (refused e' τ)
+  ended : {js : Reading} {p : Spot} → Parses then (Ok tt) (read js p then)
 
--- from the tables τ to the others
-abbrev pub SheetRead : Bytes → Source → ℕ → Lent → (Tally → Lent) → Result Tally Refusal → Type 0
-SheetRead bundle s depth τ tables r =
-    Parses tables r (parse (reading bundle) (import_file (reading bundle) depth) (suc (left bundle s start)) (spot s start) τ)
+-- from the tables τ to the tables τ'
+abbrev pub SheetRead : Bytes → Source → ℕ → Lent → Lent → Result Unit Refusal → Type 0
+SheetRead bundle s depth τ τ' r =
+    Parses τ' r (parse (reading bundle) (import_file (reading bundle) depth) (suc (left bundle s start)) (spot s start) τ)
 
 -- behind the name of an import; K is what comes next, from behind the semicolon
-abbrev pub ImportRead : Bytes → Range → Source → Cursor → ℕ → Lent → (Tally → Lent) → Result (Cursor × Tally) Refusal → Type 0
-ImportRead bundle name s c depth τ tables r =
+abbrev pub ImportRead : Bytes → Range → Source → Cursor → ℕ → Lent → Lent → Result Cursor Refusal → Type 0
+ImportRead bundle name s c depth τ τ' r =
     (K : Reading → Spot → Lent → Answer Reading Spot Lent Refusal)
-    → Leads bundle s (left bundle s c) tables K r
+    → Leads bundle s (left bundle s c) τ' K r
     (expect_simple_token (reading bundle) semi_colon (spot s c) τ λ e.
     after (import_file (reading bundle) depth (name_in bundle name) e τ) λ js f τ. K js e τ)

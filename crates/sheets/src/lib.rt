@@ -2,7 +2,7 @@
 #![tactic(auto)]
 
 ghost use Rattle.std.specs.Prelude.{◌≡◌};
-ghost use Rattle.keep.specs.Lent.{lent_in, lends};
+ghost use Rattle.keep.specs.Lent.{lent_in, lends, beside_colors};
 ghost use Rattle.sheets.specs.Sheets.{DefinitionKept, DefinitionRead, StatementRead, SheetRead, ImportRead};
 
 use base::Range;
@@ -11,7 +11,7 @@ use bundle::find_text;
 use cursor::Cursor;
 use input::tokens::{refuse_error, refuse_reached};
 use input::{Place, Source, Text};
-use keep::{Store, Tally, keep_color};
+use keep::Store;
 use rules::read_rule;
 use token::Step;
 use token_kind::Token;
@@ -31,23 +31,17 @@ fn store_definition(
     name: Range,
     t: Token,
     c: Cursor,
-    n: Tally,
-    colors: &mut [u32],
-) -> Result<(Cursor, Tally), Refusal>
-    ensures { DefinitionKept text.entry.bundle.now text.entry.source name t c n colors.old colors.new result }
+    store: &mut Store<'_>,
+) -> Result<Cursor, Refusal>
+    ensures read { DefinitionKept text.entry.bundle.now text.entry.source name t c (lent_in store.old) (lent_in store.new) result }
+    ensures beside { beside_colors store.new ≡ beside_colors store.old }
 {
-    match t {
-        Token::Color(x) => {
-            let m = keep_color(text.bundle, colors, n, name, x).ok_or(refuse_reached(
-                TABLE_FULL,
-                COLORS,
-                text.source,
-                c,
-            ))?;
-            Ok((c, m))
-        }
-        _ => Ok((c, n)),
+    if let Token::Color(x) = t {
+        store
+            .keep_color(text.bundle, name, x)
+            .ok_or(refuse_reached(TABLE_FULL, COLORS, text.source, c))?;
     }
+    Ok(c)
 }
 
 // Behind the name of a colour.
@@ -55,15 +49,15 @@ fn read_color_def(
     text: Text,
     name: Range,
     c: Cursor,
-    n: Tally,
-    colors: &mut [u32],
-) -> Result<(Cursor, Tally), Refusal>
-    ensures { DefinitionRead text.entry.bundle.now text.entry.source name c n colors.old colors.new result }
+    store: &mut Store<'_>,
+) -> Result<Cursor, Refusal>
+    ensures read { DefinitionRead text.entry.bundle.now text.entry.source name c (lent_in store.old) (lent_in store.new) result }
+    ensures beside { beside_colors store.new ≡ beside_colors store.old }
 {
-    let d = text.expect_colon(c)?;
+    let d = text.expect(Token::Colon, c)?;
     let (t, _, f) = text.read_mandatory_token(d)?;
-    let g = text.expect_semicolon(f)?;
-    store_definition(text, name, t, g, n, colors)
+    let g = text.expect(Token::SemiColon, f)?;
+    store_definition(text, name, t, g, store)
 }
 
 // The beginning of a statement.
@@ -72,51 +66,33 @@ fn read_statement(text: Text, c: Cursor) -> Result<Statement, Refusal>
 {
     match text.next(c).map_err(|e| refuse_error(text.source, e))? {
         Step::End(_) => Ok(Statement::EndOfText),
-        Step::Took(t, line, character, d) => match t {
-            Token::Import(name) => Ok(Statement::ImportOf(name, d)),
-            Token::ColorRef(name) => Ok(Statement::ColorOf(name, d)),
-            _ => {
-                let o = Place {
-                    text: text.source.number,
-                    line,
-                    character,
-                };
-                Ok(Statement::RuleAt(t, o, d))
-            }
-        },
+        Step::Took(Token::Import(name), _, _, d) => Ok(Statement::ImportOf(name, d)),
+        Step::Took(Token::ColorRef(name), _, _, d) => Ok(Statement::ColorOf(name, d)),
+        Step::Took(t, line, character, d) => {
+            let o = Place {
+                text: text.source.number,
+                line,
+                character,
+            };
+            Ok(Statement::RuleAt(t, o, d))
+        }
     }
 }
 
 // A whole text.
 #[cycle(import_file_parse)]
-pub fn parse(text: Text, depth: usize, n: Tally, store: &mut Store<'_>) -> Result<Tally, Refusal>
-    ensures read { SheetRead text.entry.bundle.now text.entry.source depth (lent_in n store.old) (λ m. lent_in m store.new) result }
+pub fn parse(text: Text, depth: usize, store: &mut Store<'_>) -> Result<(), Refusal>
+    ensures read { SheetRead text.entry.bundle.now text.entry.source depth (lent_in store.old) (lent_in store.new) result }
     ensures lends { lends store.new ≡ lends store.old }
 {
     let mut at = Cursor::new();
-    let mut k = n;
     loop {
-        let statement = read_statement(text, at)?;
-        match statement {
-            Statement::EndOfText => {
-                return Ok(k);
-            }
-            Statement::ImportOf(name, d) => {
-                let (f, m) = import_file(text, name, d, depth, k, store)?;
-                at = f;
-                k = m;
-            }
-            Statement::ColorOf(name, d) => {
-                let (f, m) = read_color_def(text, name, d, k, store.colors)?;
-                at = f;
-                k = m;
-            }
-            Statement::RuleAt(t, o, d) => {
-                let (f, m) = read_rule(text, t, o, d, k, store)?;
-                at = f;
-                k = m;
-            }
-        }
+        at = match read_statement(text, at)? {
+            Statement::EndOfText => return Ok(()),
+            Statement::ImportOf(name, d) => import_file(text, name, d, depth, store)?,
+            Statement::ColorOf(name, d) => read_color_def(text, name, d, store)?,
+            Statement::RuleAt(t, o, d) => read_rule(text, t, o, d, store)?,
+        };
     }
 }
 
@@ -127,13 +103,12 @@ fn import_file(
     name: Range,
     c: Cursor,
     depth: usize,
-    n: Tally,
     store: &mut Store<'_>,
-) -> Result<(Cursor, Tally), Refusal>
-    ensures read { ImportRead text.entry.bundle.now name text.entry.source c depth (lent_in n store.old) (λ m. lent_in m store.new) result }
+) -> Result<Cursor, Refusal>
+    ensures read { ImportRead text.entry.bundle.now name text.entry.source c depth (lent_in store.old) (lent_in store.new) result }
     ensures lends { lends store.new ≡ lends store.old }
 {
-    let d = text.expect_semicolon(c)?;
+    let d = text.expect(Token::SemiColon, c)?;
     let (number, range) = find_text(text.bundle, base::part(text.bundle, name)).ok_or(
         refuse_reached(NO_SUCH_TEXT, 0, text.source, d),
     )?;
@@ -144,6 +119,6 @@ fn import_file(
         bundle: text.bundle,
         source: Source { number, range },
     };
-    let m = parse(named, depth - 1, n, store)?;
-    Ok((d, m))
+    parse(named, depth - 1, store)?;
+    Ok(d)
 }

@@ -119,6 +119,17 @@ pub fn short_at(s: &[u8], at: usize) -> usize
     usize::from(base::byte_at(s, at)) + 256 * usize::from(base::byte_at(s, at + 1))
 }
 
+// The number of entries that a stored answer has at a place; a refusal leaves none.
+pub fn count_at(answer: &[u8], number: u64, at: usize) -> usize
+    ensures value { result ≡ cond (eqb number 0) (short answer.now at) 0 }
+    ensures bound { result ≤ 65535 }
+{
+    match number {
+        0 => short_at(answer, at),
+        _ => 0,
+    }
+}
+
 // Entry i of so many that are stored from a place on, two bytes each; zeros stand behind them.
 pub fn entry_at(s: &[u8], at: usize, entries: usize, i: usize) -> usize
     ensures { result ≡ cond (ltb i entries) (short s.now (at + 2 * i)) 0 }

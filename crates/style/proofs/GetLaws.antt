@@ -1,12 +1,11 @@
--- What is there, else a default; and the only number of a range of the table of numbers, cut to the table, by how many it has.
-use Prim.Native.Nat.{ℕ, suc, ◌-◌, ◌≤◌, ◌<◌}
+-- What is there, else a default; and the only number of a part of the table of numbers, by how many it has.
+use Prim.Native.Nat.{ℕ, ◌≤◌, ◌<◌}
 use native.Mathlib.Omega.{arith}
 use mathlib.Core.Path.{◌≡◌, refl, sym, ◌∙◌, ap}
 use mathlib.Core.List.{List, [], ◌∷◌}
 use lib.Ieee.{Float, nan, binary64, of_bits, of_int}
 use Rattle.cascade.specs.Number.{whole}
-use lib.ListN.{length, take, drop, get_or, drop_of_length-le}
-use lib.Seq.{take_all, take-nil, drop-cons}
+use lib.ListN.{length, get_or}
 use Rattle.style.specs.Get.{one_of}
 use Rattle.std.specs.Prelude.{Option, Some, None, unwrap_or}
 use lib.Dec.{ltb}
@@ -44,40 +43,22 @@ module _ {A : Type 0} (n k : ℕ) (f : ℕ → A) (r : Option ℕ) (e : r ≡ be
   unfolding on_option
   place_some i q = ap at (sym q ∙ e) ∙ at_there
 
-module _ (numbers : List Float) (from to : ℕ) where
-  abbrev pub read : Option Float
-  read = one_of (take (to - from) (drop from numbers))
+-- the only number of a part, by how many it has
+pub one_missing : (p q : List Float) → p ≡ q → length p < 1 → None ≡ one_of q
+unfolding one_of
+one_missing [] q e h = ap one_of e
+one_missing (x ∷ p) q e h = absurd (omega arith)
 
-  pub one_past : length numbers ≤ from → None ≡ read
-  unfolding one_of
-  one_past h = rw (drop_of_length-le numbers h, take-nil)
+pub one_there : (p q : List Float) → p ≡ q → 1 ≤ length p → length p < 2 → Some (get_or p 0 nan) ≡ one_of q
+unfolding one_of
+one_there [] q e h l = absurd (omega arith)
+one_there (x ∷ []) q e h l = ap one_of e
+one_there (x ∷ y ∷ p) q e h l = absurd (omega arith)
 
-  module _ (within : from < length numbers) where
-    pub one_empty : to ≤ from → None ≡ read
-    unfolding one_of
-    one_empty h = let z : to - from ≡ 0 = omega arith in rw z
+pub one_several : (p q : List Float) → p ≡ q → 2 ≤ length p → None ≡ one_of q
+unfolding one_of
+one_several [] q e h = absurd (omega arith)
+one_several (x ∷ []) q e h = absurd (omega arith)
+one_several (x ∷ y ∷ p) q e h = ap one_of e
 
-    module _ (some : from < to) where
-      pub one_asked : to - from ≡ 1 → Some (get_or numbers from nan) ≡ read
-      unfolding one_of
-      one_asked h = rw (h, drop-cons numbers from nan)
-
-      pub one_left : length numbers - from ≡ 1 → Some (get_or numbers from nan) ≡ read
-      unfolding one_of
-      one_left h =
-          let end : length numbers ≤ suc from = omega arith in
-          rw (
-            drop-cons numbers from nan,
-            drop_of_length-le numbers end,
-            take_all (to - from) (get_or numbers from nan ∷ []) (omega arith),
-          )
-
-      pub one_several :
-          (to - from ≡ 1 → ⊥)
-          → (length numbers - from ≡ 1 → ⊥)
-          → None ≡ read
-      unfolding one_of
-      one_several h l =
-          let k : to - from ≡ suc (suc (to - from - 2)) = omega arith in
-          let next : suc from < length numbers = omega arith in
-          rw (k, drop-cons numbers from nan within, drop-cons numbers (suc from) nan next)
+pub ruleset ones = (one_missing, one_there, one_several)

@@ -1,1 +1,2 @@
 pub mod GetLaws
+pub mod WordNames

@@ -1,5 +1,6 @@
 // The getters of property_map_to_style: what a layer's property of a name is read as.
-ghost use Rattle.std.specs.Prelude.{◌≡◌, ◌-◌, take, drop};
+ghost use Rattle.std.specs.Prelude.{◌≡◌};
+ghost use Rattle.base.specs.Bytes.{within};
 ghost use Rattle.style.specs.Get.{property_in, color_of, one_of, number_of, delta_of, dashes_of, text_of, word_of, cap_named, position_named};
 ghost use Rattle.style.specs.Style.{color_in, number_in, delta_in, dashes_in, text_in, cap_in, position_in, is_word_in};
 
@@ -15,7 +16,7 @@ impl Row<'_, '_> {
         ensures { result ≡ property_in self.entry.tables.now.bundle.now self.entry.tables.now.properties.now self.entry.tables.now.numbers.now self.entry.numbers.now name.now }
     {
         let Row { tables, numbers } = self;
-        let i = find_name(tables.bundle, tables.properties, numbers, name)?;
+        let i = find_name(tables, numbers, name)?;
         let p = numbers[i] as usize;
         Some(property_value(tables.properties, tables.numbers, p))
     }
@@ -93,25 +94,14 @@ fn number_of(numbers: &[f64], p: Option<PropertyValue>) -> Option<f64>
 }
 
 // The only number of a range, cut to the table.
+#[tactic(auto, using(crate::proofs::GetLaws::ones))]
 fn one_of(numbers: &[f64], r: Range) -> Option<f64>
-    ensures { result ≡ one_of (take (r.to - r.from) (drop r.from numbers.now)) }
+    ensures { result ≡ one_of (within r numbers.now) }
 {
-    let n = numbers.len();
-    let from = r.from;
-    let to = r.to;
-    if n <= from {
-        return None;
+    match base::part(numbers, r) {
+        [x] => Some(*x),
+        _ => None,
     }
-    if to <= from {
-        return None;
-    }
-    if to - from == 1 {
-        return Some(numbers[from]);
-    }
-    if n - from == 1 {
-        return Some(numbers[from]);
-    }
-    None
 }
 
 #[tactic(auto, unfolding(crate::specs::Get::delta_of))]
@@ -157,32 +147,25 @@ fn word_of<'a>(bundle: &'a [u8], p: Option<PropertyValue>) -> &'a [u8]
     }
 }
 
+#[tactic(auto, using(crate::proofs::WordNames::caps))]
 fn cap_named(word: &[u8]) -> Option<LineCap>
     ensures { result ≡ cap_named word.now }
 {
-    if base::same_bytes(word, b"none") {
-        return Some(LineCap::Butt);
+    match word {
+        b"none" | b"butt" => Some(LineCap::Butt),
+        b"round" => Some(LineCap::Round),
+        b"square" => Some(LineCap::Square),
+        _ => None,
     }
-    if base::same_bytes(word, b"butt") {
-        return Some(LineCap::Butt);
-    }
-    if base::same_bytes(word, b"round") {
-        return Some(LineCap::Round);
-    }
-    if base::same_bytes(word, b"square") {
-        return Some(LineCap::Square);
-    }
-    None
 }
 
+#[tactic(auto, using(crate::proofs::WordNames::positions))]
 fn position_named(word: &[u8]) -> Option<TextPosition>
     ensures { result ≡ position_named word.now }
 {
-    if base::same_bytes(word, b"center") {
-        return Some(TextPosition::Center);
+    match word {
+        b"center" => Some(TextPosition::Center),
+        b"line" => Some(TextPosition::Line),
+        _ => None,
     }
-    if base::same_bytes(word, b"line") {
-        return Some(TextPosition::Line);
-    }
-    None
 }

@@ -2,11 +2,13 @@
 #![tactic(auto)]
 
 ghost use Rattle.std.specs.Prelude.{◌≡◌};
+ghost use Rattle.walk.specs.Rows.{numbers_at};
 ghost use Rattle.style.specs.Style.{default_z, casing_multiplier, width_or_zero, casing_only, full_casing, casing_width, font_size, text_style_in, z_index_in, foreground_in, style_at};
 
 use base::Range;
 use color::Color;
 use table::{Name, Tables};
+use walk::maps::row_of;
 
 mod get;
 
@@ -53,7 +55,7 @@ pub struct TextStyle {
     pub font_size: Option<f64>,
 }
 
-#[derive(Clone, Copy)]
+#[derive(Clone, Copy, Default)]
 pub struct Style {
     pub layer: Option<i64>,
     pub z_index: f64,
@@ -111,6 +113,19 @@ pub fn property_map_to_style(
         icon_image: row.text(b"icon-image"),
         fill_image: row.text(b"fill-image"),
         text_style: row.text_style(settings),
+    }
+}
+
+impl<'t, 'n> Row<'t, 'n> {
+    // The row of layer i of a table of maps.
+    pub fn at(tables: &'t Tables<'t>, maps: &'n [u32; 4323], i: usize) -> Row<'t, 'n>
+        ensures of_tables { result.tables.now ≡ tables.now }
+        ensures numbers { result.numbers.now ≡ numbers_at maps.now i }
+    {
+        Row {
+            tables,
+            numbers: row_of(maps, i),
+        }
     }
 }
 

@@ -32,6 +32,26 @@ module _ {A : Type 0} where
       let e : min (length all) 32 ≡ min 32 (length all) = omega arith in
       ap (λ (k : ℕ). take k all) e ∙ take_min 32 all
 
+  -- the first of what is left behind k
+  pub first_left :
+      (all : List A) (k : ℕ) {x : A} {r : List A} (d : A)
+      → drop k all ≡ x ∷ r
+      → (k < length all) × (x ≡ get_or all k d) × (r ≡ drop (k + 1) all)
+  first_left all k {x} {r} d e =
+      let h : k < length all = omega (arith, length-drop k all, ap length e) in
+      let q : x ∷ r ≡ get_or all k d ∷ drop (suc k) all = sym e ∙ drop-cons all k d h in
+      (h, ap (λ (l : List A). get_or l 0 d) q, ap (drop 1) q ∙ ap (λ (j : ℕ). drop j all) (sym (add-one k)))
+
+  -- as many as there are, and 32 at most, are seen where n of 32 are left and none behind k
+  pub all_seen :
+      (all : List A) (k n : ℕ)
+      → k ≤ length all
+      → k + n ≡ 32
+      → (0 < n → length (drop k all) ≡ 0)
+      → k ≡ min (length all) 32
+  all_seen all k zero b e f = omega (arith, b, e)
+  all_seen all k (suc n) b e f = omega (arith, b, e, length-drop k all, f (omega arith))
+
   -- a list stored, and the rest behind it
   pub put_all :
       (t : List A) (i j n : ℕ) {u w : List A} (xs ys : List A)

@@ -16,11 +16,12 @@ abbrev pub flag : Bool → ℕ
 flag true = 1
 flag false = 0
 
--- whether a number is there, and the number; 0 where it is not
-abbrev pub has_number : Option Float → ℕ
-has_number None = 0
-has_number (Some x) = 1
+-- 1 where there is something, else 0
+abbrev pub has : {A : Type 0} → Option A → ℕ
+has None = 0
+has (Some x) = 1
 
+-- the number, and 0 where there is none
 abbrev pub float_number : Option Float → Float
 float_number None = zero_float
 float_number (Some x) = x
@@ -39,10 +40,6 @@ position_number (Some Line) = 2
 abbrev pub layer_number : Option ℤ → ℤ
 layer_number None = pos 0
 layer_number (Some i) = i
-
-abbrev pub has_layer : Option ℤ → ℕ
-has_layer None = 0
-has_layer (Some i) = 1
 
 -- whether it is there, and its bytes
 unfoldable pub color_numbers : Option Color → List ℕ
@@ -81,13 +78,13 @@ unfoldable pub scalars : StyledLayer → List ℕ
 scalars x =
     let s = x.style in
     x.selector
-    ∷ has_layer s.layer
+    ∷ has s.layer
     ∷ flag s.is_foreground_fill
-    ∷ has_number s.opacity
-    ∷ has_number s.fill_opacity
-    ∷ has_number s.width
-    ∷ has_number s.casing_width
-    ∷ has_number (font_size s.text_style)
+    ∷ has s.opacity
+    ∷ has s.fill_opacity
+    ∷ has s.width
+    ∷ has s.casing_width
+    ∷ has (font_size s.text_style)
     ∷ cap_number s.line_cap
     ∷ cap_number s.casing_line_cap
     ∷ position_number (text_position s.text_style)

@@ -3,7 +3,7 @@
 
 ghost use Rattle.std.specs.Prelude.{◌≡◌, map, pos, take};
 ghost use Rattle.base.specs.Table.{zero_float, padded, flat};
-ghost use Rattle.style_rows.specs.Rows.{flag, has_number, float_number, cap_number, position_number, layer_number, has_layer, color_numbers, dash_numbers, text_numbers, text, text_color, text_position, font_size, scalars, row_words, row_floats, row_layer};
+ghost use Rattle.style_rows.specs.Rows.{flag, has, float_number, cap_number, position_number, layer_number, color_numbers, dash_numbers, text_numbers, text, text_color, text_position, font_size, scalars, row_words, row_floats, row_layer};
 
 use base::{Range, store_all};
 use color::Color;
@@ -25,8 +25,7 @@ pub fn store_layers(
     words.fill(0);
     floats.fill(0.0);
     layers.fill(0);
-    for k in 0..styled.len().min(32) {
-        let x = styled[k];
+    for (k, &x) in styled.iter().take(32).enumerate() {
         store_all(&mut words[..], k * 52, &row_words(x)[..]);
         store_all(&mut floats[..], k * 6, &row_floats(x)[..]);
         layers[k] = layer_number(x.style.layer);
@@ -39,20 +38,15 @@ fn layer_number(tag: Option<i64>) -> i64
     tag.unwrap_or(0)
 }
 
-fn has_layer(tag: Option<i64>) -> u64
-    ensures { result ≡ has_layer tag }
-{
-    u64::from(tag.is_some())
-}
-
 fn flag(b: bool) -> u64
     ensures { result ≡ flag b }
 {
     u64::from(b)
 }
 
-fn has_number(m: Option<f64>) -> u64
-    ensures { result ≡ has_number m }
+// 1 where there is something, else 0.
+fn has<T: Copy>(m: Option<T>) -> u64
+    ensures { result ≡ has m }
 {
     u64::from(m.is_some())
 }
@@ -132,13 +126,13 @@ fn scalars(x: StyledLayer) -> [u64; 11]
     let s = x.style;
     [
         x.selector as u64,
-        has_layer(s.layer),
+        has(s.layer),
         flag(s.is_foreground_fill),
-        has_number(s.opacity),
-        has_number(s.fill_opacity),
-        has_number(s.width),
-        has_number(s.casing_width),
-        has_number(font_size(s.text_style)),
+        has(s.opacity),
+        has(s.fill_opacity),
+        has(s.width),
+        has(s.casing_width),
+        has(font_size(s.text_style)),
         cap_number(s.line_cap),
         cap_number(s.casing_line_cap),
         position_number(text_position(s.text_style)),
@@ -171,10 +165,8 @@ fn text_numbers(t: Option<Name>) -> [u64; 5]
 {
     match t {
         None => [0, 0, 0, 0, 0],
-        Some(n) => match n {
-            Name::Plain(a) => [1, a.from as u64, a.to as u64, 0, 0],
-            Name::Joined(a, b) => [2, a.from as u64, a.to as u64, b.from as u64, b.to as u64],
-        },
+        Some(Name::Plain(a)) => [1, a.from as u64, a.to as u64, 0, 0],
+        Some(Name::Joined(a, b)) => [2, a.from as u64, a.to as u64, b.from as u64, b.to as u64],
     }
 }
 

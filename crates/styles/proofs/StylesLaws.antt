@@ -9,7 +9,7 @@ use mathlib.Core.Option.{none, some}
 use lib.Ieee.{Float, of_bits, of_int}
 use lib.Dec.{ltb}
 use lib.ListN.{length, get_or, set, replicate, length-append}
-use borrow.Author.Tests.{lt-ltb, le-ltb, not-true, not-false}
+use borrow.Author.Tests.{lt-ltb, le-ltb}
 use Rattle.base.specs.Bytes.{Bytes, ascii, same, within}
 use Rattle.base.specs.Choice.{pick, via, via_with, if_true, if_false}
 use Rattle.base.specs.Refusal.{refusal}
@@ -230,18 +230,21 @@ module _ (bundle rules selectors tests properties : List ℕ) (numbers : List Fl
       ∙ sym (ap (styles_from bundle selectors properties numbers e.kind tagged settings) (via_with w q))
 
 module _ (bundle rules selectors tests properties : List ℕ) (numbers : List Float) (n : Counts) (zoom : ℕ) (settings : Settings)
-    (entity : Bytes) (b : Bool) (i : b ≡ tables_sound rules selectors tests properties numbers n (length bundle)) where
+    (entity : Bytes) where
+  abbrev sound : Bool
+  sound = tables_sound rules selectors tests properties numbers n (length bundle)
+
   abbrev styled : Result EntityStyles Refusal
   styled = styles_of bundle rules selectors tests properties numbers n zoom settings entity
 
-  pub styles_broken : not b ≡ true → (r : Refusal) → r ≡ refusal 22 0 0 0 0 → Err r ≡ styled
+  pub styles_broken : sound ≡ false → (r : Refusal) → r ≡ refusal 22 0 0 0 0 → Err r ≡ styled
   unfolding styles_of
-  styles_broken y r w = if_false _ _ _ (via i (not-true b y)) (ap (λ (r : Refusal). Err r) w)
+  styles_broken y r w = if_false _ _ _ y (ap (λ (r : Refusal). Err r) w)
 
-  module _ (y : not b ≡ false) (q : Result EntityRange Refusal) (j : q ≡ single_of entity) where
+  module _ (y : sound ≡ true) (q : Result EntityRange Refusal) (j : q ≡ single_of entity) where
     pub styles_bad : (r : Refusal) → q ≡ Err r → Err r ≡ styled
     unfolding styles_of
-    styles_bad r w = if_true _ _ _ (via i (not-false b y)) (result_err _ _ _ (via j w) refl)
+    styles_bad r w = if_true _ _ _ y (result_err _ _ _ (via j w) refl)
 
     pub styles_walked :
         (e : EntityRange)
@@ -250,4 +253,4 @@ module _ (bundle rules selectors tests properties : List ℕ) (numbers : List Fl
         → x ≡ walked_styles bundle rules selectors tests properties numbers n.rules zoom settings entity e
         → x ≡ styled
     unfolding styles_of
-    styles_walked e w x z = if_true _ _ _ (via i (not-false b y)) (result_ok _ _ _ (via j w) z)
+    styles_walked e w x z = if_true _ _ _ y (result_ok _ _ _ (via j w) z)

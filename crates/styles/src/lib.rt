@@ -4,19 +4,19 @@
 ghost use Rattle.std.specs.Prelude.{◌≡◌, ◌≤◌, length, take};
 ghost use Rattle.styles.specs.Styles.{blank_layer, layer_styled, filled_layers, walked_styles, styles_of};
 
-use base::refusal::{Refusal, TABLE_BROKEN};
+use base::refusal::Refusal;
 use entity::{ALONE, Entity, single_entity};
 use parts::{default_width, is_styled, tag_layer};
 use style::{Row, Settings, Style, property_map_to_style};
 use table::Tables;
-use valid::{Counts, are_sound};
-use walk::maps::{Layers, row_of, selector_at};
+use valid::{Counts, judge};
+use walk::maps::{Layers, selector_at};
 use walk::walk_entity;
 
 pub mod parts;
 
 // A styled layer, named by the selector that first matched it.
-#[derive(Clone, Copy)]
+#[derive(Clone, Copy, Default)]
 pub struct StyledLayer {
     pub selector: u32,
     pub style: Style,
@@ -48,9 +48,7 @@ pub fn entity_styles(
 ) -> Result<EntityStyles, Refusal>
     ensures { result ≡ styles_of tables.now.bundle.now tables.now.rules.now tables.now.selectors.now tables.now.tests.now tables.now.properties.now tables.now.numbers.now n zoom settings entity.now }
 {
-    if !are_sound(tables, n) {
-        return Err(Refusal::plain(TABLE_BROKEN));
-    }
+    judge(tables, n)?;
     let range = single_entity(entity)?;
     let entity = Entity {
         bytes: entity,
@@ -87,17 +85,14 @@ fn filled_layers(
     ensures { result ≡ filled_layers tables.now.bundle.now tables.now.selectors.now tables.now.properties.now tables.now.numbers.now maps.now m kind layer settings }
 {
     let base = default_width(tables, maps, m.n);
-    let mut layers = [blank_layer(); 32];
+    let mut layers = [StyledLayer::default(); 32];
     let mut count: usize = 0;
     for i in 0..m.n {
         if !is_styled(tables, maps, i) {
             continue;
         }
         // Lent again, since a row holds its tables at one lifetime.
-        let row = Row {
-            tables: &*tables,
-            numbers: row_of(maps, i),
-        };
+        let row = Row::at(&*tables, maps, i);
         layers[count] = StyledLayer {
             selector: selector_at(&maps[..], i),
             style: property_map_to_style(row, kind, layer, base, settings),
@@ -105,33 +100,4 @@ fn filled_layers(
         count += 1;
     }
     EntityStyles { layers, count }
-}
-
-#[tactic(auto, unfolding(crate::specs::Styles::blank_layer))]
-fn blank_layer() -> StyledLayer
-    ensures { result ≡ blank_layer }
-{
-    StyledLayer {
-        selector: 0,
-        style: Style {
-            layer: None,
-            z_index: 0.0,
-            color: None,
-            fill_color: None,
-            is_foreground_fill: false,
-            background_color: None,
-            opacity: None,
-            fill_opacity: None,
-            width: None,
-            dashes: None,
-            line_cap: None,
-            casing_color: None,
-            casing_width: None,
-            casing_dashes: None,
-            casing_line_cap: None,
-            icon_image: None,
-            fill_image: None,
-            text_style: None,
-        },
-    }
 }

@@ -12,42 +12,30 @@ use entity::Entity;
 use style::{Row, width_or_zero};
 use table::Tables;
 use walk::layer_place;
-use walk::maps::{row_of, selector_at};
+use walk::maps::selector_at;
 use walk::names::is_layer;
 
 // The tag `layer` of an entity.
 pub fn tag_layer(entity: Entity) -> Option<i64>
     ensures { result ≡ layer_told (layer_tag (value_of entity.entry.bytes.now entity.entry.range)) }
 {
-    let Entity { bytes, range } = entity;
-    let v = reader::get_by_key(bytes, range.tags, range.count, b"layer")?;
-    tag_number::layer_tag(base::part(bytes, v))
+    let v = reader::get_by_key(entity, b"layer")?;
+    tag_number::layer_tag(base::part(entity.bytes, v))
 }
 
 // Whether layer i of a table of maps gets a style: all do but `*`.
 pub fn is_styled(tables: &Tables, maps: &[u32; 4323], i: usize) -> bool
     ensures { result ≡ not (same star (layer_in tables.now.bundle.now tables.now.selectors.now (named_by tables.now.bundle.now tables.now.selectors.now maps.now i))) }
 {
-    !is_layer(
-        tables.bundle,
-        tables.selectors,
-        selector_at(&maps[..], i),
-        b"*",
-    )
+    !is_layer(tables, selector_at(&maps[..], i), b"*")
 }
 
 // The width of the default layer among the first n of a table of maps; 0 where it has none, or there is none.
 pub fn default_width(tables: &Tables, maps: &[u32; 4323], n: usize) -> f64
     ensures { result ≡ default_width tables.now.bundle.now tables.now.selectors.now tables.now.properties.now tables.now.numbers.now maps.now n }
 {
-    match layer_place(tables.bundle, tables.selectors, &maps[..], n, b"default") {
+    match layer_place(tables, &maps[..], n, b"default") {
         None => 0.0,
-        Some(i) => {
-            let row = Row {
-                tables,
-                numbers: row_of(maps, i),
-            };
-            width_or_zero(row.number(b"width"))
-        }
+        Some(i) => width_or_zero(Row::at(tables, maps, i).number(b"width")),
     }
 }

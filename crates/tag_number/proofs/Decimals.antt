@@ -1,12 +1,15 @@
 -- From the parts of a decimal, as the code finds them, to what the theory reads.
-use Prim.Native.Nat.{ℕ, ◌+◌, ◌^◌, ◌<◌}
+use Prim.Native.Nat.{ℕ, ◌+◌, ◌-◌, ◌^◌, ◌<◌, ◌≤◌}
 use native.Mathlib.Omega.{arith}
 use mathlib.Core.Path.{◌≡◌, refl, sym, ◌∙◌, ap, ap₂}
 use mathlib.Core.Logic.{inl}
 use mathlib.Core.Bool.{Bool, true, false}
 use mathlib.Core.List.{[], ◌∷◌, ◌++◌, map}
 use mathlib.Core.Option.{Option as Maybe, none, some}
-use lib.ListN.{length, get_or, drop}
+use lib.Dec.{eqb}
+use lib.ListN.{length, get_or, take, drop}
+use borrow.Author.Tests.{eq-eqb, ne_eqb, eqb-false}
+use Rattle.std.proofs.lemmas.List.{take_rest}
 use lib.IntN.{ℤ, pos, ◌-ℤ◌}
 use lib.Ieee.{Float, nan, inf}
 use Rattle.base.specs.Bytes.{Bytes, ascii, same}
@@ -31,27 +34,34 @@ module _ (v t : Bytes) (e : t ≡ unsigned v) (w : Bool) (q : w ≡ whole_text t
   unfolding written_power pick
   written_some m n h p u = rw (sym e, sym q, h) (ap₂ (λ (m : Bool) (n : ℕ). Some (m, n)) p u)
 
-pub power_none : (v : Bytes) → length v ≡ 0 → Some (false, 0) ≡ power_of v
+pub power_none : (v : Bytes) → length v < 1 → Some (false, 0) ≡ power_of v
 unfolding power_of
 power_none [] h = refl
 power_none (b ∷ v) h = absurd (omega arith)
 
-pub power_not : (v : Bytes) (t : Bool) → (length v ≡ 0 → ⊥) → t ≡ is_e (get_or v 0 0) → t ≡ false → None ≡ power_of v
-unfolding power_of pick
-power_not [] t h e f = absurd (h refl)
-power_not (b ∷ v) t h e f = let g : is_e b ≡ false = sym e ∙ f in rw g
+module _ (v : Bytes) (l : 1 ≤ length v) where
+  pub power_not : (get_or v 0 0 ≡ 101 → ⊥) → (get_or v 0 0 ≡ 69 → ⊥) → None ≡ power_of v
+  unfolding power_of pick
+  power_not h k = go v l h k
+    where
+      go : (v : Bytes) → 1 ≤ length v → (get_or v 0 0 ≡ 101 → ⊥) → (get_or v 0 0 ≡ 69 → ⊥) → None ≡ power_of v
+      go [] l h k = absurd (omega arith)
+      go (b ∷ v) l h k = rw (ne_eqb b 101 h, ne_eqb b 69 k)
 
-pub power_written :
-    (v u : Bytes) (t : Bool) (r : Option (Bool × ℕ))
-    → (length v ≡ 0 → ⊥)
-    → t ≡ is_e (get_or v 0 0)
-    → t ≡ true
-    → u ≡ drop 1 v
-    → r ≡ written_power u
-    → r ≡ power_of v
-unfolding power_of pick
-power_written [] u t r h e f p q = absurd (h refl)
-power_written (b ∷ v) u t r h e f p q = let g : is_e b ≡ true = sym e ∙ f in rw g (q ∙ ap written_power p)
+  pub power_written :
+      (r : Option (Bool × ℕ))
+      → ((get_or v 0 0 ≡ 101 → ⊥) → get_or v 0 0 ≡ 69)
+      → r ≡ written_power (take (length v - 1) (drop 1 v))
+      → r ≡ power_of v
+  unfolding power_of pick
+  power_written r h q = q ∙ ap written_power (take_rest v 1) ∙ go v l h
+    where
+      go : (v : Bytes) → 1 ≤ length v → ((get_or v 0 0 ≡ 101 → ⊥) → get_or v 0 0 ≡ 69) → written_power (drop 1 v) ≡ power_of v
+      go [] l h = absurd (omega arith)
+      go (b ∷ v) l h =
+          by-test (eqb b 101)
+          (λ t. rw t)
+          (λ t. rw (t, eq-eqb b 69 (h (eqb-false b 101 t))))
 
 exponent_none : (x : Bytes) → power_of x ≡ None → exponent_of x ≡ none
 unfolding power_of exponent_of written_power pick

@@ -1,91 +1,84 @@
 -- Signs, digits, dots and words of a text, as the code goes through them.
-use Prim.Native.Nat.{ℕ, ◌+◌, ◌<◌, ◌≤◌}
-use native.Mathlib.Numerals.{add-one}
+use Prim.Native.Nat.{ℕ, ◌+◌, ◌-◌}
 use native.Mathlib.Omega.{arith}
 use mathlib.Core.Path.{◌≡◌, refl, sym, ◌∙◌, ap}
-use mathlib.Core.Bool.{true, false, not}
+use mathlib.Core.Bool.{Bool, true, false, not}
 use mathlib.Core.List.{[], ◌∷◌, ◌++◌, map}
 use lib.Dec.{eqb, ltb}
-use lib.ListN.{length, get_or, take, drop, drop_of_length-le, length-append, length-map}
-use lib.Seq.{drop-cons, take-append_seam, drop-append_seam}
-use borrow.Author.Tests.{eq-eqb, ne_eqb, ltb-false}
+use Rattle.std.proofs.lemmas.List.{take_rest}
+use lib.ListN.{length, get_or, take, drop, length-append}
+use lib.Seq.{take-append_seam, drop-append_seam}
+use borrow.Author.Tests.{eq-eqb, ne_eqb, ltb-false, ltb-true, le-leb, lt-leb}
 use Rattle.base.specs.Bytes.{Bytes, same}
 use Rattle.base.specs.Choice.{by-test}
-use Rattle.base.proofs.Compare.{same_lengths}
+use Rattle.base.proofs.Compare.{same_refl, same_false}
+use Rattle.std.proofs.Common.{ap₂, true≢false}
+use Rattle.std.specs.Bool.{IsTrue}
+use Rattle.std.specs.Char.{to_ascii_lowercase}
+use mathlib.Core.Logic.{◌↔◌}
 use Rattle.std.specs.List.{prefix_len}
 use Rattle.std.specs.Prelude.{position, unwrap_or}
 use Rattle.cascade.specs.Number.{is_digit, lower_case, negative, unsigned, digits, after_digits, decimals, after_decimals}
 use Rattle.tag_number.specs.Grown.{whole_text}
 
--- ---- signs
+-- ---- signs and dots
 
-pub negative_at : (s : Bytes) → eqb (get_or s 0 0) 45 ≡ negative s
+pub minus_first : (s : Bytes) → get_or s 0 0 ≡ 45 → true ≡ negative s
 unfolding negative
-negative_at [] = refl
-negative_at (b ∷ s) = refl
+minus_first [] h = absurd (omega arith)
+minus_first (b ∷ s) h = sym (eq-eqb b 45 h)
 
-module _ (b : ℕ) (s : Bytes) (e : b ≡ get_or s 0 0) where
-  first_is : {n : ℕ} → b ≡ n → get_or s 0 0 ≡ n
-  first_is h = sym e ∙ h
+pub no_minus : (s : Bytes) → (get_or s 0 0 ≡ 45 → ⊥) → false ≡ negative s
+unfolding negative
+no_minus [] h = refl
+no_minus (b ∷ s) h = sym (ne_eqb b 45 h)
 
-  first_not : {n : ℕ} → (b ≡ n → ⊥) → get_or s 0 0 ≡ n → ⊥
-  first_not h q = h (e ∙ q)
+pub after_minus : (s : Bytes) → get_or s 0 0 ≡ 45 → take (length s - 1) (drop 1 s) ≡ unsigned s
+unfolding unsigned
+after_minus s h = take_rest s 1 ∙ go s h
+  where
+    go : (s : Bytes) → get_or s 0 0 ≡ 45 → drop 1 s ≡ unsigned s
+    go [] q = refl
+    go (x ∷ s) q = rw (eq-eqb x 45 q)
 
-  pub sign_minus : b ≡ 45 → drop 1 s ≡ unsigned s
-  unfolding unsigned
-  sign_minus h = go s (first_is h)
-    where
-      go : (s : Bytes) → get_or s 0 0 ≡ 45 → drop 1 s ≡ unsigned s
-      go [] q = refl
-      go (x ∷ s) q = rw (eq-eqb x 45 q)
+pub after_plus : (s : Bytes) → get_or s 0 0 ≡ 43 → take (length s - 1) (drop 1 s) ≡ unsigned s
+unfolding unsigned
+after_plus s h = take_rest s 1 ∙ go s h
+  where
+    go : (s : Bytes) → get_or s 0 0 ≡ 43 → drop 1 s ≡ unsigned s
+    go [] q = refl
+    go (x ∷ s) q = rw (ne_eqb x 45 (λ z. omega arith), eq-eqb x 43 q)
 
-  pub sign_plus : b ≡ 43 → drop 1 s ≡ unsigned s
-  unfolding unsigned
-  sign_plus h = go s (first_is h)
-    where
-      go : (s : Bytes) → get_or s 0 0 ≡ 43 → drop 1 s ≡ unsigned s
-      go [] q = refl
-      go (x ∷ s) q = rw (ne_eqb x 45 (λ z. omega arith), eq-eqb x 43 q)
+pub no_sign : (s : Bytes) → (get_or s 0 0 ≡ 45 → ⊥) → (get_or s 0 0 ≡ 43 → ⊥) → s ≡ unsigned s
+unfolding unsigned
+no_sign [] h k = refl
+no_sign (b ∷ s) h k = rw (ne_eqb b 45 h, ne_eqb b 43 k)
 
-  pub sign_none : (b ≡ 45 → ⊥) → (b ≡ 43 → ⊥) → s ≡ unsigned s
-  unfolding unsigned
-  sign_none h k = go s (first_not h) (first_not k)
-    where
-      go : (s : Bytes) → (get_or s 0 0 ≡ 45 → ⊥) → (get_or s 0 0 ≡ 43 → ⊥) → s ≡ unsigned s
-      go [] p q = refl
-      go (x ∷ s) p q = rw (ne_eqb x 45 p, ne_eqb x 43 q)
+pub dot_digits : (s : Bytes) → get_or s 0 0 ≡ 46 → digits (take (length s - 1) (drop 1 s)) ≡ decimals s
+unfolding digits decimals
+dot_digits s h = ap digits (take_rest s 1) ∙ go s h
+  where
+    go : (s : Bytes) → get_or s 0 0 ≡ 46 → digits (drop 1 s) ≡ decimals s
+    go [] q = refl
+    go (x ∷ s) q = rw (eq-eqb x 46 q)
 
-  pub dot_digits : b ≡ 46 → digits (drop 1 s) ≡ decimals s
-  unfolding digits decimals
-  dot_digits h = go s (first_is h)
-    where
-      go : (s : Bytes) → get_or s 0 0 ≡ 46 → digits (drop 1 s) ≡ decimals s
-      go [] q = refl
-      go (x ∷ s) q = rw (eq-eqb x 46 q)
+pub dot_after : (s : Bytes) → get_or s 0 0 ≡ 46 → after_digits (take (length s - 1) (drop 1 s)) ≡ after_decimals s
+unfolding after_digits after_decimals
+dot_after s h = ap after_digits (take_rest s 1) ∙ go s h
+  where
+    go : (s : Bytes) → get_or s 0 0 ≡ 46 → after_digits (drop 1 s) ≡ after_decimals s
+    go [] q = refl
+    go (x ∷ s) q = rw (eq-eqb x 46 q)
 
-  pub dot_after : b ≡ 46 → after_digits (drop 1 s) ≡ after_decimals s
-  unfolding after_digits after_decimals
-  dot_after h = go s (first_is h)
-    where
-      go : (s : Bytes) → get_or s 0 0 ≡ 46 → after_digits (drop 1 s) ≡ after_decimals s
-      go [] q = refl
-      go (x ∷ s) q = rw (eq-eqb x 46 q)
+pub no_dot_digits : (s : Bytes) → (get_or s 0 0 ≡ 46 → ⊥) → [] ≡ decimals s
+unfolding decimals
+no_dot_digits [] h = refl
+no_dot_digits (b ∷ s) h = rw (ne_eqb b 46 h)
 
-  pub no_dot_digits : (b ≡ 46 → ⊥) → [] ≡ decimals s
-  unfolding decimals
-  no_dot_digits h = go s (first_not h)
-    where
-      go : (s : Bytes) → (get_or s 0 0 ≡ 46 → ⊥) → [] ≡ decimals s
-      go [] q = refl
-      go (x ∷ s) q = rw (ne_eqb x 46 q)
-
-  pub no_dot_after : (b ≡ 46 → ⊥) → s ≡ after_decimals s
-  unfolding after_decimals
-  no_dot_after h = go s (first_not h)
-    where
-      go : (s : Bytes) → (get_or s 0 0 ≡ 46 → ⊥) → s ≡ after_decimals s
-      go [] q = refl
-      go (x ∷ s) q = rw (ne_eqb x 46 q)
+pub no_dot_after : (s : Bytes) → (get_or s 0 0 ≡ 46 → ⊥) → s ≡ after_decimals s
+unfolding after_decimals
+no_dot_after [] h = refl
+no_dot_after (b ∷ s) h = rw (ne_eqb b 46 h)
 
 -- ---- digits
 
@@ -120,28 +113,28 @@ whole_all (b ∷ s) n h e = go (after_digits (b ∷ s)) (digits_length (b ∷ s)
 
 -- ---- words
 
-module _ (a w : Bytes) (i : ℕ) where
-  pub word_lengths : (length a ≡ length w → ⊥) → same (map lower_case a) w ≡ false
-  word_lengths h = same_lengths (map lower_case a) w (λ e. h (sym (length-map a lower_case) ∙ e))
+lowered_byte : (b : ℕ) → to_ascii_lowercase b ≡ lower_case b
+lowered_byte b =
+    by-test (ltb b 65)
+    (λ h. rw (h, lt-leb 65 b (ltb-true b 65 h)))
+    (λ h.
+    let l = ltb-false b 65 h in
+    by-test (ltb b 91)
+    (λ k. let m = ltb-true b 91 k in rw (h, k, le-leb 65 b l, le-leb b 90 (omega arith)))
+    (λ k. let m = ltb-false b 91 k in rw (h, k, le-leb 65 b l, lt-leb b 90 (omega arith))))
 
-  pub word_ends : length a ≤ i → length w ≤ i → same (map lower_case (drop i a)) (drop i w) ≡ true
-  unfolding same
-  word_ends p q = rw (drop_of_length-le a p, drop_of_length-le w q)
+lowered : (s : Bytes) → map to_ascii_lowercase s ≡ map lower_case s
+lowered [] = refl
+lowered (b ∷ s) = ap₂ (λ (b : ℕ) (s : Bytes). b ∷ s) (lowered_byte b) (lowered s)
 
-  module _ (p : i < length a) (q : i < length w) (x : ℕ) (e : x ≡ lower_case (get_or a i 0)) where
-    pub word_differ : (x ≡ get_or w i 0 → ⊥) → same (map lower_case (drop i a)) (drop i w) ≡ false
-    unfolding same
-    word_differ h =
-        let n : eqb (lower_case (get_or a i 0)) (get_or w i 0) ≡ false = ne_eqb _ _ (λ z. h (e ∙ z)) in
-        rw (drop-cons a i 0 p, drop-cons w i 0 q, n)
-
-    pub word_next :
-        x ≡ get_or w i 0
-        → same (map lower_case (drop i a)) (drop i w) ≡ same (map lower_case (drop (i + 1) a)) (drop (i + 1) w)
-    unfolding same
-    word_next h =
-        let n : eqb (lower_case (get_or a i 0)) (get_or w i 0) ≡ true = eq-eqb _ _ (sym e ∙ h) in
-        rw (add-one, drop-cons a i 0 p, drop-cons w i 0 q, n)
+-- two texts that differ at most in case
+pub words_same :
+    (t w : Bytes) (r : Bool)
+    → IsTrue r ↔ (map to_ascii_lowercase t ≡ map to_ascii_lowercase w)
+    → r ≡ same (map lower_case t) (map lower_case w)
+words_same t w true h = sym (ap (λ l. same l (map lower_case w)) (sym (lowered t) ∙ h.0 refl ∙ lowered w) ∙ same_refl (map lower_case w))
+words_same t w false h =
+    sym (same_false (map lower_case t) (map lower_case w) (λ e. absurd (true≢false (sym (h.1 (lowered t ∙ e ∙ sym (lowered w)))))))
 
 -- the digits end where the first byte is that is none
 digits_prefix : (s : Bytes) → prefix_len (λ b. not (not (is_digit b))) s ≡ length (digits s)

@@ -5,11 +5,9 @@ ghost use Rattle.std.specs.Prelude.{◌≡◌, map, ◌-◌, ◌<◌, ◌^◌, p
 ghost use Rattle.std.proofs.Math.Option.{some};
 ghost use Rattle.std.specs.Float.{inf};
 ghost use Rattle.base.specs.Bytes.{same};
-ghost use Rattle.cascade.specs.Number.{is_e, is_digit, lower_case, negative, unsigned, digits, after_digits, with_sign, ranged, as_integer, decimals, after_decimals, decimal_of, whole, signed, scaled, value_of, unsigned_number, tag_number};
+ghost use Rattle.cascade.specs.Number.{is_digit, lower_case, negative, unsigned, digits, after_digits, with_sign, ranged, as_integer, decimals, after_decimals, decimal_of, whole, signed, scaled, value_of, unsigned_number, tag_number};
 ghost use Rattle.tag_number.specs.Told.{told, layer_told};
 ghost use Rattle.tag_number.specs.Grown.{grown, grown_from, whole_text, written_power, power_of, decimal};
-
-use base::Range;
 
 // Why a tag's value gives no number.
 #[derive(Clone, Copy)]
@@ -49,16 +47,17 @@ const TENS: [f64; 23] = [
 pub fn tag_number(v: &[u8]) -> Result<f64, NumberError>
     ensures { result ≡ told (tag_number v.now) }
 {
-    unsigned_number(after_sign(v), is_negative(v))
+    let (minus, t) = split_sign(v);
+    unsigned_number(t, minus)
 }
 
 // The i64 that a tag's value spells, as Rust reads it.
 pub fn layer_tag(v: &[u8]) -> Option<i64>
     ensures { result ≡ layer_told (as_integer v.now) }
 {
-    let t = after_sign(v);
+    let (minus, t) = split_sign(v);
     if is_whole_text(t) {
-        return layer_of(is_negative(v), spell(t, 0));
+        return layer_of(minus, spell(t, 0));
     }
     None
 }
@@ -68,32 +67,16 @@ fn layer_of(minus: bool, n: u64) -> Option<i64>
     ensures { result ≡ layer_told (ranged (some (with_sign minus n))) }
 {
     if minus {
-        return layer_below(n);
+        return 0i64.checked_sub_unsigned(n);
     }
     i64::try_from(n).ok()
-}
-
-// The layer that is so far below 0.
-fn layer_below(n: u64) -> Option<i64>
-    ensures { result ≡ layer_told (ranged (some (neg_ℤ (pos n)))) }
-{
-    if n == 0 {
-        return Some(0);
-    }
-    if n <= 9223372036854775808 {
-        return Some(-1 - ((n - 1) as i64));
-    }
-    None
 }
 
 // What stands behind the sign: a word or a decimal.
 fn unsigned_number(t: &[u8], minus: bool) -> Result<f64, NumberError>
     ensures { result ≡ told (unsigned_number minus t.now) }
 {
-    if is_word(t, b"inf") {
-        return Ok(infinite(minus));
-    }
-    if is_word(t, b"infinity") {
+    if is_word(t, b"inf") || is_word(t, b"infinity") {
         return Ok(infinite(minus));
     }
     if is_word(t, b"nan") {
@@ -115,33 +98,18 @@ fn infinite(minus: bool) -> f64
 
 // Whether a text is a word, in any case.
 fn is_word(t: &[u8], w: &[u8]) -> bool
-    ensures { result ≡ same (map lower_case t.now) w.now }
+    ensures { result ≡ same (map lower_case t.now) (map lower_case w.now) }
 {
-    if t.len() != w.len() {
-        return false;
-    }
-    for i in 0..t.len() {
-        if lower(t[i]) != w[i] {
-            return false;
-        }
-    }
-    true
-}
-
-fn lower(b: u8) -> u8
-    ensures { result ≡ lower_case b }
-{
-    b.to_ascii_lowercase()
+    t.eq_ignore_ascii_case(w)
 }
 
 // Digits, a dot and digits, and an exponent.
 fn decimal_number(t: &[u8], minus: bool) -> Result<f64, NumberError>
     ensures { result ≡ told (value_of (decimal_of minus t.now)) }
 {
-    let ds = first_digits(t);
-    let r = after_digits(t);
-    let fs = decimal_digits(r);
-    let Some((down, p)) = power_of(after_decimals(r)) else {
+    let (ds, r) = split_digits(t);
+    let (fs, e) = split_decimals(r);
+    let Some((down, p)) = power_of(e) else {
         return Err(NumberError::Malformed);
     };
     let n = fs.len();
@@ -229,25 +197,16 @@ fn with_sign(x: Significand) -> f64
     if x.minus { -d } else { d }
 }
 
-// Whether a minus stands first.
-fn is_negative(v: &[u8]) -> bool
-    ensures { result ≡ negative v.now }
+// Whether a minus stands first, and what follows an optional sign.
+fn split_sign(v: &[u8]) -> (bool, &[u8])
+    ensures minus { result.0 ≡ negative v.now }
+    ensures rest { result.1.now ≡ unsigned v.now }
 {
-    base::byte_at(v, 0) == 45
-}
-
-// What follows an optional sign.
-fn after_sign(v: &[u8]) -> &[u8]
-    ensures { result.now ≡ unsigned v.now }
-{
-    let b = base::byte_at(v, 0);
-    if b == 45 {
-        return digits::tail(v);
+    match v {
+        [b'-', rest @ ..] => (true, rest),
+        [b'+', rest @ ..] => (false, rest),
+        _ => (false, v),
     }
-    if b == 43 {
-        return digits::tail(v);
-    }
-    v
 }
 
 fn is_digit(b: u8) -> bool
@@ -263,48 +222,23 @@ fn digit_count(v: &[u8]) -> usize
     v.iter().position(|b| !is_digit(*b)).unwrap_or(v.len())
 }
 
-fn first_digits(v: &[u8]) -> &[u8]
-    ensures { result.now ≡ digits v.now }
+// The digits that stand first, and what follows them.
+fn split_digits(v: &[u8]) -> (&[u8], &[u8])
+    ensures first { result.0.now ≡ digits v.now }
+    ensures rest { result.1.now ≡ after_digits v.now }
 {
-    base::part(
-        v,
-        Range {
-            from: 0,
-            to: digit_count(v),
-        },
-    )
+    v.split_at(digit_count(v))
 }
 
-fn after_digits(v: &[u8]) -> &[u8]
-    ensures { result.now ≡ after_digits v.now }
+// The digits behind a dot, and what follows them.
+fn split_decimals(v: &[u8]) -> (&[u8], &[u8])
+    ensures first { result.0.now ≡ decimals v.now }
+    ensures rest { result.1.now ≡ after_decimals v.now }
 {
-    base::part(
-        v,
-        Range {
-            from: digit_count(v),
-            to: v.len(),
-        },
-    )
-}
-
-// The digits behind a dot.
-fn decimal_digits(v: &[u8]) -> &[u8]
-    ensures { result.now ≡ decimals v.now }
-{
-    if base::byte_at(v, 0) == 46 {
-        return first_digits(digits::tail(v));
+    match v {
+        [b'.', rest @ ..] => split_digits(rest),
+        _ => v.split_at(0),
     }
-    base::part(v, Range { from: 0, to: 0 })
-}
-
-// What follows a dot and its digits.
-fn after_decimals(v: &[u8]) -> &[u8]
-    ensures { result.now ≡ after_decimals v.now }
-{
-    if base::byte_at(v, 0) == 46 {
-        return after_digits(digits::tail(v));
-    }
-    v
 }
 
 // Whether a text is digits, at least one, and nothing else.
@@ -321,28 +255,20 @@ fn is_whole_text(v: &[u8]) -> bool
 fn power_of(v: &[u8]) -> Option<(bool, u64)>
     ensures { result ≡ power_of v.now }
 {
-    if v.len() == 0 {
-        return Some((false, 0));
+    match v {
+        [] => Some((false, 0)),
+        [b'e' | b'E', rest @ ..] => written_power(rest),
+        _ => None,
     }
-    if is_e(v[0]) {
-        return written_power(digits::tail(v));
-    }
-    None
-}
-
-fn is_e(b: u8) -> bool
-    ensures { result ≡ is_e b }
-{
-    b == 101 || b == 69
 }
 
 // The exponent behind its letter.
 fn written_power(v: &[u8]) -> Option<(bool, u64)>
     ensures { result ≡ written_power v.now }
 {
-    let t = after_sign(v);
+    let (minus, t) = split_sign(v);
     if is_whole_text(t) {
-        return Some((is_negative(v), spell(t, 0)));
+        return Some((minus, spell(t, 0)));
     }
     None
 }
@@ -371,5 +297,5 @@ fn grow(n: u64, b: u8) -> u64
 fn digit_of(b: u8) -> u64
     ensures { result ≡ b - 48 }
 {
-    if b < 48 { 0 } else { (b - 48) as u64 }
+    u64::from(b.saturating_sub(b'0'))
 }

@@ -13,17 +13,17 @@ use Rattle.grammar.specs.Token.{Name, Token as Token'}
 use Rattle.grammar.specs.Reading.{Test}
 use Rattle.grammar.specs.Input.{test_entry, Answer, refused, keep}
 use Rattle.grammar.specs.Reader.{read_key}
-use Rattle.keep.specs.Lent.{Lent, lent, name_shown, test_row, keep_test_of, taken, put_entry, lent_store}
+use Rattle.keep.specs.Lent.{Lent, name_shown, test_row, test_kept, put_entry, lent_store}
+use Rattle.keep.proofs.KeepLaws.{is_full, is_put}
 use Rattle.keep.specs.Source.{reading}
 use Rattle.input.specs.Source.{Spot, spot}
 use Rattle.input.specs.Text.{name_in, name_of, token_of, left, key_of, refusal_at, reached_at}
 use Rattle.input.specs.declared.Place.{Place}
 use Rattle.input.specs.declared.Source.{Source}
-use Rattle.keep.specs.declared.Tally.{Tally}
 use Rattle.input.proofs.Readers.{key_is, key_moves}
 use Rattle.keep.proofs.Laws.{option_none, option_some}
 use Rattle.std.specs.Prelude.{Some, None, Ok, Err}
-use Rattle.base.specs.Option.{on_option as on_option', with_option, on_result, on_result4}
+use Rattle.base.specs.Option.{on_result, on_result4}
 
 module _ {A : Type 0} (Q : Answer A Spot Lent Refusal → Type 0) (bundle : Bytes) (s : Source) where
   pub no_key :
@@ -48,28 +48,22 @@ module _ {A : Type 0} (Q : Answer A Spot Lent Refusal → Type 0) (bundle : Byte
   -- ---- storing
 
   pub no_room_test :
-      (x : Test) (row : List ℕ) (c : Cursor) (τ : Lent) (k : Lent → Answer A Spot Lent Refusal) {u : List ℕ}
+      (x : Test) (row : List ℕ) (c : Cursor) (τ : Lent) (k : Lent → Answer A Spot Lent Refusal) {τ' : Lent}
       → test_row x τ.tally.number ≡ row
-      → keep_test_of τ.tally τ.tests row ≡ (None, u)
+      → test_kept τ row ≡ (None, τ')
       → Q (refused (refusal_at 20 3 (reached_at s c)) τ)
       → Q (keep (reading bundle) (test_entry x) (spot s c) τ k)
-  unfolding put_entry taken with_option on_option'
-  no_room_test x row c τ k r e q =
-      option_none Q _ _ k
-      (ap (λ y. taken y λ n t. lent n τ.rules τ.selectors t τ.properties τ.numbers τ.colors) (ap (keep_test_of τ.tally τ.tests) r ∙ e))
-      q
+  unfolding put_entry test_kept
+  no_room_test x row c τ k r e q = option_none Q _ _ k (is_full _ _ _ (ap (test_kept τ) r ∙ e)) q
 
   pub room_test :
-      (x : Test) (row : List ℕ) (c : Cursor) (τ : Lent) (k : Lent → Answer A Spot Lent Refusal) {n : Tally} {u : List ℕ}
+      (x : Test) (row : List ℕ) (c : Cursor) (τ : Lent) (k : Lent → Answer A Spot Lent Refusal) {y : Unit} {τ' : Lent}
       → test_row x τ.tally.number ≡ row
-      → keep_test_of τ.tally τ.tests row ≡ (Some n, u)
-      → Q (k (lent n τ.rules τ.selectors u τ.properties τ.numbers τ.colors))
+      → test_kept τ row ≡ (Some y, τ')
+      → Q (k τ')
       → Q (keep (reading bundle) (test_entry x) (spot s c) τ k)
-  unfolding put_entry taken with_option on_option'
-  room_test x row c τ k r e q =
-      option_some Q _ _ k
-      (ap (λ y. taken y λ n t. lent n τ.rules τ.selectors t τ.properties τ.numbers τ.colors) (ap (keep_test_of τ.tally τ.tests) r ∙ e))
-      q
+  unfolding put_entry test_kept
+  room_test x row c τ k r e q = option_some Q _ _ k (is_put _ _ _ (ap (test_kept τ) r ∙ e)) q
 
 pub name_shown_lem : (bundle : Bytes) (key : Key') → name_shown (name_of bundle key) ≡ key
 name_shown_lem bundle (Plain a) = refl

@@ -15,61 +15,49 @@ use Rattle.keep.specs.Source.{reading}
 use Rattle.input.specs.Source.{Spot, spot}
 use Rattle.input.specs.Text.{left, name_in, name_of}
 use Rattle.input.specs.declared.Source.{Source}
-use Rattle.keep.specs.declared.Tally.{Tally}
-use Rattle.keep.specs.Answers.{Reads, at_tests}
+use Rattle.keep.specs.Answers.{Reads}
 
-abbrev pub at_test : Lent → List ℕ → Tally → Lent
-at_test τ ts n = at_tests τ ts τ.numbers n
-
--- what is read from a cursor on, with these tests and numbers before and after
-abbrev pub TestsRead :
-    {A : Type 0} → Bytes → Source → Cursor → Tally → List ℕ → List Float → List ℕ → List Float → (Lent → Answer A Spot Lent Refusal) → Result (Cursor × Tally) Refusal → Type 0
-TestsRead bundle s c n ts xs ts' xs' f r = (τ : Lent) → Reads bundle s (left bundle s c) (at_tests τ ts' xs') r (f (at_tests τ ts xs n))
-
--- with no number stored
-abbrev pub TestRead : {A : Type 0} → Bytes → Source → Cursor → Tally → List ℕ → List ℕ → (Lent → Answer A Spot Lent Refusal) → Result (Cursor × Tally) Refusal → Type 0
-TestRead bundle s c n ts ts' f r = (τ : Lent) → Reads bundle s (left bundle s c) (at_test τ ts') r (f (at_test τ ts n))
+-- what is read from a cursor on, from the tables τ to the tables τ'
+abbrev pub TestsRead : {A : Type 0} → Bytes → Source → Cursor → Lent → Lent → (Lent → Answer A Spot Lent Refusal) → Result Cursor Refusal → Type 0
+TestsRead bundle s c τ τ' f r = Reads bundle s (left bundle s c) τ' r (f τ)
 
 -- a test whose words are these is stored
-abbrev pub TestKept : Source → Cursor → Tally → List ℕ → List ℕ → List ℕ → Result (Cursor × Tally) Refusal → Type 0
-TestKept s c n row ts ts' r =
+abbrev pub TestKept : Source → Cursor → List ℕ → Lent → Lent → Result Cursor Refusal → Type 0
+TestKept s c row τ τ' r =
     (bundle : Bytes) (x : Test)
-    → test_row x n.number ≡ row
-    → TestRead bundle s c n ts ts' (keep_test (reading bundle) x (spot s c)) r
+    → test_row x τ.tally.number ≡ row
+    → TestsRead bundle s c τ τ' (keep_test (reading bundle) x (spot s c)) r
 
 -- a test with the number x is stored, behind the number
-abbrev pub NumberTestKept : Source → Cursor → Tally → ℕ → Name → Float → List ℕ → List Float → List ℕ → List Float → Result (Cursor × Tally) Refusal → Type 0
-NumberTestKept s c n kind key x ts xs ts' xs' r =
+abbrev pub NumberTestKept : Source → Cursor → ℕ → Name → Float → Lent → Lent → Result Cursor Refusal → Type 0
+NumberTestKept s c kind key x τ τ' r =
     (bundle : Bytes) (y : Test)
     → ((p : ℕ) → test_row y p ≡ test_words kind key p 0)
-    → TestsRead bundle s c n ts xs ts' xs'
-    (keep_number_test (reading bundle) x y (spot s c)) r
+    → TestsRead bundle s c τ τ' (keep_number_test (reading bundle) x y (spot s c)) r
 
 -- behind the word b, by the kind of the test
-abbrev pub WordRead : Bytes → Source → Name → ℕ → Range → Cursor → Tally → List ℕ → List ℕ → Result (Cursor × Tally) Refusal → Type 0
-WordRead bundle s key kind b c n ts ts' r =
+abbrev pub WordRead : Bytes → Source → Name → ℕ → Range → Cursor → Lent → Lent → Result Cursor Refusal → Type 0
+WordRead bundle s key kind b c τ τ' r =
     (op : TextTest)
     → word_kind op ≡ kind
-    → TestRead bundle s c n ts ts'
-    (read_word_operand (reading bundle) op (name_of bundle key) (name_in bundle b) (spot s c)) r
+    → TestsRead bundle s c τ τ' (read_word_operand (reading bundle) op (name_of bundle key) (name_in bundle b) (spot s c)) r
 
 -- behind the number x
-abbrev pub DigitsRead : Bytes → Source → Name → ℕ → Float → Cursor → Tally → List ℕ → List Float → List ℕ → List Float → Result (Cursor × Tally) Refusal → Type 0
-DigitsRead bundle s key kind x c n ts xs ts' xs' r =
+abbrev pub DigitsRead : Bytes → Source → Name → ℕ → Float → Cursor → Lent → Lent → Result Cursor Refusal → Type 0
+DigitsRead bundle s key kind x c τ τ' r =
     (op : TextTest)
     → digits_kind op ≡ kind
-    → TestsRead bundle s c n ts xs ts' xs'
-    (read_digits_operand (reading bundle) op (name_of bundle key) x (spot s c)) r
+    → TestsRead bundle s c τ τ' (read_digits_operand (reading bundle) op (name_of bundle key) x (spot s c)) r
 
-abbrev pub OperandRead : Bytes → Source → Name → ℕ → ℕ → Cursor → Tally → List ℕ → List Float → List ℕ → List Float → Result (Cursor × Tally) Refusal → Type 0
-OperandRead bundle s key words figures c n ts xs ts' xs' r =
+abbrev pub OperandRead : Bytes → Source → Name → ℕ → ℕ → Cursor → Lent → Lent → Result Cursor Refusal → Type 0
+OperandRead bundle s key words figures c τ τ' r =
     (op : TextTest)
     → word_kind op ≡ words
     → digits_kind op ≡ figures
-    → TestsRead bundle s c n ts xs ts' xs' (read_operand (reading bundle) op (name_of bundle key) (spot s c)) r
+    → TestsRead bundle s c τ τ' (read_operand (reading bundle) op (name_of bundle key) (spot s c)) r
 
-abbrev pub NumericRead : Bytes → Source → Name → ℕ → Cursor → Tally → List ℕ → List Float → List ℕ → List Float → Result (Cursor × Tally) Refusal → Type 0
-NumericRead bundle s key kind c n ts xs ts' xs' r =
+abbrev pub NumericRead : Bytes → Source → Name → ℕ → Cursor → Lent → Lent → Result Cursor Refusal → Type 0
+NumericRead bundle s key kind c τ τ' r =
     (op : NumericTest)
     → numeric_kind op ≡ kind
-    → TestsRead bundle s c n ts xs ts' xs' (read_number (reading bundle) op (name_of bundle key) (spot s c)) r
+    → TestsRead bundle s c τ τ' (read_number (reading bundle) op (name_of bundle key) (spot s c)) r

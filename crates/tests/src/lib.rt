@@ -1,20 +1,22 @@
 // Tests: each is stored at its bracket, a number just before its test.
 #![tactic(auto)]
 
+ghost use Rattle.std.specs.Prelude.{◌≡◌};
 ghost use Rattle.grammar.specs.Reader.{question_test, bang_question_test, plain_test, bang_test, read_key, read_bang_test, read_test};
 ghost use Rattle.input.specs.Source.{spot};
+ghost use Rattle.keep.specs.Lent.{lent_in, beside_tests};
 ghost use Rattle.keep.specs.Source.{reading};
 ghost use Rattle.input.specs.Text.{name_in, name_of, token_of};
 ghost use Rattle.entries.specs.Words.{test_words};
 ghost use Rattle.table.specs.Kind.{test_number};
-ghost use Rattle.tests.specs.Answers.{TestRead, TestsRead, TestKept, NumberTestKept, WordRead, DigitsRead, OperandRead, NumericRead};
+ghost use Rattle.tests.specs.Answers.{TestsRead, TestKept, NumberTestKept, WordRead, DigitsRead, OperandRead, NumericRead};
 
 use base::Range;
 use base::refusal::{NOT_WHOLE, NUMBERS, PARSE, Refusal, TABLE_FULL, TESTS, UNEXPECTED_TOKEN};
 use cursor::Cursor;
 use input::tokens::{refuse, refuse_reached};
 use input::{Place, Source, Text};
-use keep::{Tally, keep_number, keep_test};
+use keep::Store;
 use table::Name;
 use table::kind::TestKind::{
     self, Exists, False, Greater, GreaterOrEqual, Less, LessOrEqual, NotExists, NumberEqual,
@@ -26,36 +28,38 @@ use token_kind::Token;
 fn store_test(
     source: Source,
     c: Cursor,
-    n: Tally,
     kind: TestKind,
     key: Name,
     a: usize,
     b: usize,
-    tests: &mut [u32],
-) -> Result<(Cursor, Tally), Refusal>
-    ensures { TestKept source c n (test_words (test_number kind) key a b) tests.old tests.new result }
+    store: &mut Store<'_>,
+) -> Result<Cursor, Refusal>
+    ensures read { TestKept source c (test_words (test_number kind) key a b) (lent_in store.old) (lent_in store.new) result }
+    ensures beside { beside_tests store.new ≡ beside_tests store.old }
 {
-    let m = keep_test(tests, n, kind.number(), key, a, b).ok_or(refuse_reached(
-        TABLE_FULL, TESTS, source, c,
-    ))?;
-    Ok((c, m))
+    store
+        .keep_test(kind.number(), key, a, b)
+        .ok_or(refuse_reached(TABLE_FULL, TESTS, source, c))?;
+    Ok(c)
 }
 
 // The test of a key with the number x, behind its bracket.
 fn store_number_test(
     source: Source,
     c: Cursor,
-    n: Tally,
     kind: TestKind,
     key: Name,
     x: f64,
-    tests: &mut [u32],
-    numbers: &mut [f64],
-) -> Result<(Cursor, Tally), Refusal>
-    ensures { NumberTestKept source c n (test_number kind) key x tests.old numbers.old tests.new numbers.new result }
+    store: &mut Store<'_>,
+) -> Result<Cursor, Refusal>
+    ensures read { NumberTestKept source c (test_number kind) key x (lent_in store.old) (lent_in store.new) result }
+    ensures beside { beside_tests store.new ≡ beside_tests store.old }
 {
-    let m = keep_number(numbers, n, x).ok_or(refuse_reached(TABLE_FULL, NUMBERS, source, c))?;
-    store_test(source, c, m, kind, key, m.number, 0, tests)
+    store
+        .keep_number(x)
+        .ok_or(refuse_reached(TABLE_FULL, NUMBERS, source, c))?;
+    let number = store.tally.number;
+    store_test(source, c, kind, key, number, 0, store)
 }
 
 // Behind the word b of an = or != test.
@@ -65,13 +69,13 @@ fn read_word_operand(
     kind: TestKind,
     b: Range,
     c: Cursor,
-    n: Tally,
-    tests: &mut [u32],
-) -> Result<(Cursor, Tally), Refusal>
-    ensures { WordRead text.entry.bundle.now text.entry.source key (test_number kind) b c n tests.old tests.new result }
+    store: &mut Store<'_>,
+) -> Result<Cursor, Refusal>
+    ensures read { WordRead text.entry.bundle.now text.entry.source key (test_number kind) b c (lent_in store.old) (lent_in store.new) result }
+    ensures beside { beside_tests store.new ≡ beside_tests store.old }
 {
-    let d = text.expect_right_bracket(c)?;
-    store_test(text.source, d, n, kind, key, b.from, b.to, tests)
+    let d = text.expect(Token::RightBracket, c)?;
+    store_test(text.source, d, kind, key, b.from, b.to, store)
 }
 
 // Behind the number x of an = or != test.
@@ -81,15 +85,14 @@ fn read_digits_operand(
     kind: TestKind,
     x: f64,
     c: Cursor,
-    n: Tally,
-    tests: &mut [u32],
-    numbers: &mut [f64],
-) -> Result<(Cursor, Tally), Refusal>
-    ensures { DigitsRead text.entry.bundle.now text.entry.source key (test_number kind) x c n tests.old numbers.old tests.new numbers.new result }
+    store: &mut Store<'_>,
+) -> Result<Cursor, Refusal>
+    ensures read { DigitsRead text.entry.bundle.now text.entry.source key (test_number kind) x c (lent_in store.old) (lent_in store.new) result }
+    ensures beside { beside_tests store.new ≡ beside_tests store.old }
 {
-    let d = text.expect_right_bracket(c)?;
+    let d = text.expect(Token::RightBracket, c)?;
     if digits::is_whole(x) {
-        return store_number_test(text.source, d, n, kind, key, x, tests, numbers);
+        return store_number_test(text.source, d, kind, key, x, store);
     }
     Err(refuse_reached(NOT_WHOLE, 0, text.source, d))
 }
@@ -101,16 +104,15 @@ fn read_operand(
     words: TestKind,
     figures: TestKind,
     c: Cursor,
-    n: Tally,
-    tests: &mut [u32],
-    numbers: &mut [f64],
-) -> Result<(Cursor, Tally), Refusal>
-    ensures { OperandRead text.entry.bundle.now text.entry.source key (test_number words) (test_number figures) c n tests.old numbers.old tests.new numbers.new result }
+    store: &mut Store<'_>,
+) -> Result<Cursor, Refusal>
+    ensures read { OperandRead text.entry.bundle.now text.entry.source key (test_number words) (test_number figures) c (lent_in store.old) (lent_in store.new) result }
+    ensures beside { beside_tests store.new ≡ beside_tests store.old }
 {
     let (t, o, d) = text.read_mandatory_token(c)?;
     match t {
-        Token::Identifier(b) => read_word_operand(text, key, words, b, d, n, tests),
-        Token::Number(x) => read_digits_operand(text, key, figures, x, d, n, tests, numbers),
+        Token::Identifier(b) => read_word_operand(text, key, words, b, d, store),
+        Token::Number(x) => read_digits_operand(text, key, figures, x, d, store),
         _ => Err(refuse(PARSE, UNEXPECTED_TOKEN, o)),
     }
 }
@@ -121,33 +123,27 @@ fn read_number(
     key: Name,
     kind: TestKind,
     c: Cursor,
-    n: Tally,
-    tests: &mut [u32],
-    numbers: &mut [f64],
-) -> Result<(Cursor, Tally), Refusal>
-    ensures { NumericRead text.entry.bundle.now text.entry.source key (test_number kind) c n tests.old numbers.old tests.new numbers.new result }
+    store: &mut Store<'_>,
+) -> Result<Cursor, Refusal>
+    ensures read { NumericRead text.entry.bundle.now text.entry.source key (test_number kind) c (lent_in store.old) (lent_in store.new) result }
+    ensures beside { beside_tests store.new ≡ beside_tests store.old }
 {
     let (x, d) = text.read_figure(c)?;
-    let f = text.expect_right_bracket(d)?;
-    store_number_test(text.source, f, n, kind, key, x, tests, numbers)
+    let f = text.expect(Token::RightBracket, d)?;
+    store_number_test(text.source, f, kind, key, x, store)
 }
 
 // Behind the question mark of a test without a bang.
-fn read_question(
-    text: Text,
-    key: Name,
-    c: Cursor,
-    n: Tally,
-    tests: &mut [u32],
-) -> Result<(Cursor, Tally), Refusal>
-    ensures { TestRead text.entry.bundle.now text.entry.source c n tests.old tests.new (question_test (reading text.entry.bundle.now) (name_of text.entry.bundle.now key) (spot text.entry.source c)) result }
+fn read_question(text: Text, key: Name, c: Cursor, store: &mut Store<'_>) -> Result<Cursor, Refusal>
+    ensures read { TestsRead text.entry.bundle.now text.entry.source c (lent_in store.old) (lent_in store.new) (question_test (reading text.entry.bundle.now) (name_of text.entry.bundle.now key) (spot text.entry.source c)) result }
+    ensures beside { beside_tests store.new ≡ beside_tests store.old }
 {
     let (t, o, d) = text.read_mandatory_token(c)?;
     match t {
-        Token::RightBracket => store_test(text.source, d, n, True, key, 0, 0, tests),
+        Token::RightBracket => store_test(text.source, d, True, key, 0, 0, store),
         Token::Bang => {
-            let f = text.expect_right_bracket(d)?;
-            store_test(text.source, f, n, False, key, 0, 0, tests)
+            let f = text.expect(Token::RightBracket, d)?;
+            store_test(text.source, f, False, key, 0, 0, store)
         }
         _ => Err(refuse(PARSE, UNEXPECTED_TOKEN, o)),
     }
@@ -160,30 +156,20 @@ fn plain_test(
     t: Token,
     o: Place,
     c: Cursor,
-    n: Tally,
-    tests: &mut [u32],
-    numbers: &mut [f64],
-) -> Result<(Cursor, Tally), Refusal>
-    ensures { TestsRead text.entry.bundle.now text.entry.source c n tests.old numbers.old tests.new numbers.new (λ τ. plain_test (reading text.entry.bundle.now) (name_of text.entry.bundle.now key) τ (token_of text.entry.bundle.now t) o (spot text.entry.source c)) result }
+    store: &mut Store<'_>,
+) -> Result<Cursor, Refusal>
+    ensures read { TestsRead text.entry.bundle.now text.entry.source c (lent_in store.old) (lent_in store.new) (λ τ. plain_test (reading text.entry.bundle.now) (name_of text.entry.bundle.now key) τ (token_of text.entry.bundle.now t) o (spot text.entry.source c)) result }
+    ensures beside { beside_tests store.new ≡ beside_tests store.old }
 {
     match t {
-        Token::Equal => read_operand(text, key, TextEqual, NumberEqual, c, n, tests, numbers),
-        Token::NotEqual => read_operand(
-            text,
-            key,
-            TextNotEqual,
-            NumberNotEqual,
-            c,
-            n,
-            tests,
-            numbers,
-        ),
-        Token::Less => read_number(text, key, Less, c, n, tests, numbers),
-        Token::LessOrEqual => read_number(text, key, LessOrEqual, c, n, tests, numbers),
-        Token::Greater => read_number(text, key, Greater, c, n, tests, numbers),
-        Token::GreaterOrEqual => read_number(text, key, GreaterOrEqual, c, n, tests, numbers),
-        Token::RightBracket => store_test(text.source, c, n, Exists, key, 0, 0, tests),
-        Token::QuestionMark => read_question(text, key, c, n, tests),
+        Token::Equal => read_operand(text, key, TextEqual, NumberEqual, c, store),
+        Token::NotEqual => read_operand(text, key, TextNotEqual, NumberNotEqual, c, store),
+        Token::Less => read_number(text, key, Less, c, store),
+        Token::LessOrEqual => read_number(text, key, LessOrEqual, c, store),
+        Token::Greater => read_number(text, key, Greater, c, store),
+        Token::GreaterOrEqual => read_number(text, key, GreaterOrEqual, c, store),
+        Token::RightBracket => store_test(text.source, c, Exists, key, 0, 0, store),
+        Token::QuestionMark => read_question(text, key, c, store),
         _ => Err(refuse(PARSE, UNEXPECTED_TOKEN, o)),
     }
 }
@@ -193,14 +179,14 @@ fn read_bang_question(
     text: Text,
     key: Name,
     c: Cursor,
-    n: Tally,
-    tests: &mut [u32],
-) -> Result<(Cursor, Tally), Refusal>
-    ensures { TestRead text.entry.bundle.now text.entry.source c n tests.old tests.new (bang_question_test (reading text.entry.bundle.now) (name_of text.entry.bundle.now key) (spot text.entry.source c)) result }
+    store: &mut Store<'_>,
+) -> Result<Cursor, Refusal>
+    ensures read { TestsRead text.entry.bundle.now text.entry.source c (lent_in store.old) (lent_in store.new) (bang_question_test (reading text.entry.bundle.now) (name_of text.entry.bundle.now key) (spot text.entry.source c)) result }
+    ensures beside { beside_tests store.new ≡ beside_tests store.old }
 {
     let (t, o, d) = text.read_mandatory_token(c)?;
     match t {
-        Token::RightBracket => store_test(text.source, d, n, False, key, 0, 0, tests),
+        Token::RightBracket => store_test(text.source, d, False, key, 0, 0, store),
         _ => Err(refuse(PARSE, UNEXPECTED_TOKEN, o)),
     }
 }
@@ -212,57 +198,46 @@ fn bang_test(
     t: Token,
     o: Place,
     c: Cursor,
-    n: Tally,
-    tests: &mut [u32],
-) -> Result<(Cursor, Tally), Refusal>
-    ensures { TestRead text.entry.bundle.now text.entry.source c n tests.old tests.new (λ τ. bang_test (reading text.entry.bundle.now) (name_of text.entry.bundle.now key) τ (token_of text.entry.bundle.now t) o (spot text.entry.source c)) result }
+    store: &mut Store<'_>,
+) -> Result<Cursor, Refusal>
+    ensures read { TestsRead text.entry.bundle.now text.entry.source c (lent_in store.old) (lent_in store.new) (λ τ. bang_test (reading text.entry.bundle.now) (name_of text.entry.bundle.now key) τ (token_of text.entry.bundle.now t) o (spot text.entry.source c)) result }
+    ensures beside { beside_tests store.new ≡ beside_tests store.old }
 {
     match t {
-        Token::RightBracket => store_test(text.source, c, n, NotExists, key, 0, 0, tests),
-        Token::QuestionMark => read_bang_question(text, key, c, n, tests),
+        Token::RightBracket => store_test(text.source, c, NotExists, key, 0, 0, store),
+        Token::QuestionMark => read_bang_question(text, key, c, store),
         _ => Err(refuse(PARSE, UNEXPECTED_TOKEN, o)),
     }
 }
 
 // Behind the first word of a key.
-fn read_plain(
-    text: Text,
-    a: Range,
-    c: Cursor,
-    n: Tally,
-    tests: &mut [u32],
-    numbers: &mut [f64],
-) -> Result<(Cursor, Tally), Refusal>
-    ensures { TestsRead text.entry.bundle.now text.entry.source c n tests.old numbers.old tests.new numbers.new (λ τ. read_key (reading text.entry.bundle.now) (name_in text.entry.bundle.now a) (spot text.entry.source c) τ (plain_test (reading text.entry.bundle.now))) result }
+fn read_plain(text: Text, a: Range, c: Cursor, store: &mut Store<'_>) -> Result<Cursor, Refusal>
+    ensures read { TestsRead text.entry.bundle.now text.entry.source c (lent_in store.old) (lent_in store.new) (λ τ. read_key (reading text.entry.bundle.now) (name_in text.entry.bundle.now a) (spot text.entry.source c) τ (plain_test (reading text.entry.bundle.now))) result }
+    ensures beside { beside_tests store.new ≡ beside_tests store.old }
 {
     let (key, t, o, d) = text.read_key(a, c)?;
-    plain_test(text, key, t, o, d, n, tests, numbers)
+    plain_test(text, key, t, o, d, store)
 }
 
 // Behind the bang of a test.
-fn read_bang(text: Text, c: Cursor, n: Tally, tests: &mut [u32]) -> Result<(Cursor, Tally), Refusal>
-    ensures { TestRead text.entry.bundle.now text.entry.source c n tests.old tests.new (read_bang_test (reading text.entry.bundle.now) (spot text.entry.source c)) result }
+fn read_bang(text: Text, c: Cursor, store: &mut Store<'_>) -> Result<Cursor, Refusal>
+    ensures read { TestsRead text.entry.bundle.now text.entry.source c (lent_in store.old) (lent_in store.new) (read_bang_test (reading text.entry.bundle.now) (spot text.entry.source c)) result }
+    ensures beside { beside_tests store.new ≡ beside_tests store.old }
 {
     let (a, d) = text.read_identifier(c)?;
     let (key, t, o, f) = text.read_key(a, d)?;
-    bang_test(text, key, t, o, f, n, tests)
+    bang_test(text, key, t, o, f, store)
 }
 
 // Behind the opening bracket.
-pub fn read_test(
-    text: Text,
-    c: Cursor,
-    n: Tally,
-    tests: &mut [u32],
-    numbers: &mut [f64],
-) -> Result<(Cursor, Tally), Refusal>
-    ensures { TestsRead text.entry.bundle.now text.entry.source c n tests.old numbers.old tests.new numbers.new (read_test (reading text.entry.bundle.now) (spot text.entry.source c)) result }
+pub fn read_test(text: Text, c: Cursor, store: &mut Store<'_>) -> Result<Cursor, Refusal>
+    ensures read { TestsRead text.entry.bundle.now text.entry.source c (lent_in store.old) (lent_in store.new) (read_test (reading text.entry.bundle.now) (spot text.entry.source c)) result }
+    ensures beside { beside_tests store.new ≡ beside_tests store.old }
 {
     let (t, o, d) = text.read_mandatory_token(c)?;
     match t {
-        Token::Identifier(a) => read_plain(text, a, d, n, tests, numbers),
-        Token::Text(a) => read_plain(text, a, d, n, tests, numbers),
-        Token::Bang => read_bang(text, d, n, tests),
+        Token::Identifier(a) | Token::Text(a) => read_plain(text, a, d, store),
+        Token::Bang => read_bang(text, d, store),
         _ => Err(refuse(PARSE, UNEXPECTED_TOKEN, o)),
     }
 }

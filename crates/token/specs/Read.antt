@@ -7,7 +7,6 @@ use Rattle.base.specs.declared.Range.{Range}
 use Rattle.space.specs.Space.{is_white_space}
 use Rattle.cursor.specs.Class.{in_span, can_be_in_at_directive, can_start_identifier, can_continue_identifier}
 use Rattle.cursor.specs.Cursor.{next_char}
-use Rattle.cursor.specs.Elim.{on-Next}
 use Rattle.cursor.specs.declared.Cursor.{Cursor}
 use Rattle.token_kind.specs.Reason.{Reading, after_minus, symbol, after_at, import_string, open_string, lexer_error}
 use Rattle.token_kind.specs.Signs.{get_two_char_simple_token, get_one_char_simple_token}
@@ -23,7 +22,7 @@ range from to = record { from = from; to = to }
 
 -- characters of a class go on
 abbrev pub class_turn : (ℕ → Bool) → Bytes → Cursor → Turn Cursor Cursor
-class_turn p s c = on-Next (next_char s c) (λ d. done c) λ ch d. pick (p ch) (more d) (done c)
+class_turn p s c = on_result2 (next_char s c) (λ d. done c) λ ch d. pick (p ch) (more d) (done c)
 
 abbrev pub class_end : (ℕ → Bool) → Bytes → Cursor → Cursor
 class_end p s c = turns (class_turn p s) c (suc (length s)) c
@@ -38,7 +37,7 @@ read_identifier s from c = let end = identifier_end s c in Ok (Identifier (range
 -- to the closing quote
 abbrev pub quoted_turn : Bytes → ℕ → Cursor → Turn Cursor (Result (Range × Cursor) LexerError)
 quoted_turn s from c =
-    on-Next (next_char s c) (λ d. done (Err (lexer_error open_string d))) λ ch d.
+    on_result2 (next_char s c) (λ d. done (Err (lexer_error open_string d))) λ ch d.
     pick (eqb ch 34) (done (Ok (range from c.at, d))) (more d)
 
 unfoldable pub read_quoted : Bytes → Cursor → Result (Range × Cursor) LexerError
@@ -50,12 +49,12 @@ read_string s c = on_result2 (read_quoted s c) Err λ text d. Ok (Text text, d)
 -- behind a blank or a bracket, if one stands here
 unfoldable pub skip_one : Bytes → ℕ → Cursor → Cursor
 skip_one s bracket c =
-    on-Next (next_char s c) (λ d. c) λ ch d.
+    on_result2 (next_char s c) (λ d. c) λ ch d.
     pick (is_white_space ch) d (pick (eqb ch bracket) d c)
 
 unfoldable pub read_import : Bytes → Cursor → Reading
 read_import s c =
-    on-Next (next_char s c) (λ d. Err (lexer_error import_string d)) λ ch d.
+    on_result2 (next_char s c) (λ d. Err (lexer_error import_string d)) λ ch d.
     pick (eqb ch 34)
     (on_result2 (read_quoted s d) Err λ text e. Ok (Import text, skip_one s 41 e))
     (Err (lexer_error import_string d))
@@ -73,12 +72,12 @@ at_directive_end = class_end can_be_in_at_directive
 
 unfoldable pub read_at_directive : Bytes → Cursor → Reading
 read_at_directive s c =
-    on-Next (next_char s c) (λ d. Err (lexer_error after_at d)) λ ch d.
+    on_result2 (next_char s c) (λ d. Err (lexer_error after_at d)) λ ch d.
     pick (can_be_in_at_directive ch) (read_directive s c.at (at_directive_end s d)) (Err (lexer_error after_at d))
 
 unfoldable pub read_after_minus : Bytes → ℕ → Cursor → Reading
 read_after_minus s idx c =
-    on-Next (next_char s c) (λ d. Err (lexer_error after_minus c)) λ ch d.
+    on_result2 (next_char s c) (λ d. Err (lexer_error after_minus c)) λ ch d.
     pick (in_span 48 57 ch) (read_number s 45 c)
     (pick (can_continue_identifier ch) (read_identifier s idx c)
     (Err (lexer_error after_minus c)))
@@ -109,7 +108,7 @@ read_single s idx ch c = on_option (get_one_char_simple_token ch) (read_long s i
 -- the sign of two letters that ch begins
 unfoldable pub read_pair : Bytes → ℕ → Cursor → Option (Token × Cursor)
 read_pair s ch c =
-    on-Next (next_char s c) (λ d. None) λ next d.
+    on_result2 (next_char s c) (λ d. None) λ next d.
     on_option (get_two_char_simple_token ch next) None λ token.
     Some (token, d)
 

@@ -4,9 +4,7 @@ ghost use Rattle.token.specs.Read.{read_token, read_pair, read_single, read_long
 
 use base::refusal::{AFTER_AT, AFTER_MINUS, IMPORT_STRING, OPEN_STRING, SYMBOL};
 use base::{Range, part, same_bytes};
-use cursor::{
-    Cursor, Next, can_be_in_at_directive, can_continue_identifier, can_start_identifier, in_span,
-};
+use cursor::{Cursor, can_be_in_at_directive, can_continue_identifier, can_start_identifier};
 use space::is_white_space;
 use token_kind::signs::{get_one_char_simple_token, get_two_char_simple_token};
 use token_kind::{LexerError, Reading, Token, lexer_error};
@@ -24,16 +22,13 @@ pub fn read_token(s: &[u8], idx: usize, ch: u32, c: Cursor) -> Reading
 }
 
 // The sign of two letters that ch begins.
+#[tactic(auto, unfolding(crate::specs::Read::read_pair, base::specs::Option::on_option, base::specs::Option::on_result))]
 fn read_pair(s: &[u8], ch: u32, c: Cursor) -> Option<(Token, Cursor)>
     ensures { result ≡ read_pair s.now ch c }
 {
-    match c.next_char(s) {
-        Next::Done(_) => None,
-        Next::Got(next_ch, d) => {
-            let token = get_two_char_simple_token(ch, next_ch)?;
-            Some((token, d))
-        }
-    }
+    let (next_ch, d) = c.next_char(s).ok()?;
+    let token = get_two_char_simple_token(ch, next_ch)?;
+    Some((token, d))
 }
 
 // The same, of a character that begins no sign of two letters.
@@ -47,32 +42,31 @@ fn read_single(s: &[u8], idx: usize, ch: u32, c: Cursor) -> Reading
 }
 
 // The same, of a character that is no sign.
+#[tactic(auto, unfolding(crate::specs::Read::read_long, base::specs::Choice::pick))]
 fn read_long(s: &[u8], idx: usize, ch: u32, c: Cursor) -> Reading
     ensures { result ≡ read_long s.now idx ch c }
 {
-    if ch == 64 {
-        return read_at_directive(s, c);
+    match ch {
+        64 => read_at_directive(s, c),
+        42 => Ok((
+            Token::Identifier(Range {
+                from: idx,
+                to: c.at,
+            }),
+            c,
+        )),
+        _ if can_start_identifier(ch) => read_identifier(s, idx, c),
+        34 => read_string(s, c),
+        _ if starts_number(ch) => read_number(s, ch, c),
+        _ => read_other(s, idx, ch, c),
     }
-    if ch == 42 {
-        let to = c.at;
-        return Ok((Token::Identifier(Range { from: idx, to }), c));
-    }
-    if can_start_identifier(ch) {
-        return read_identifier(s, idx, c);
-    }
-    if ch == 34 {
-        return read_string(s, c);
-    }
-    if starts_number(ch) {
-        return read_number(s, ch, c);
-    }
-    read_other(s, idx, ch, c)
 }
 
+#[tactic(auto, unfolding(crate::specs::Read::starts_number, base::specs::Choice::pick))]
 fn starts_number(ch: u32) -> bool
     ensures { result ≡ starts_number ch }
 {
-    in_span(48, 57, ch) || ch == 43 || ch == 46
+    matches!(ch, 43 | 46 | 48..=57)
 }
 
 fn read_other(s: &[u8], idx: usize, ch: u32, c: Cursor) -> Reading
@@ -86,35 +80,26 @@ fn read_other(s: &[u8], idx: usize, ch: u32, c: Cursor) -> Reading
     }
 }
 
+#[tactic(auto, unfolding(crate::specs::Read::read_after_minus, base::specs::Option::on_result, base::specs::Choice::pick))]
 fn read_after_minus(s: &[u8], idx: usize, c: Cursor) -> Reading
     ensures { result ≡ read_after_minus s.now idx c }
 {
     match c.next_char(s) {
-        Next::Done(_) => Err(lexer_error(AFTER_MINUS, c)),
-        Next::Got(next_ch, _) => {
-            if in_span(48, 57, next_ch) {
-                return read_number(s, 45, c);
-            }
-            if can_continue_identifier(next_ch) {
-                return read_identifier(s, idx, c);
-            }
-            Err(lexer_error(AFTER_MINUS, c))
-        }
+        Ok((48..=57, _)) => read_number(s, 45, c),
+        Ok((ch, _)) if can_continue_identifier(ch) => read_identifier(s, idx, c),
+        _ => Err(lexer_error(AFTER_MINUS, c)),
     }
 }
 
+#[tactic(auto, unfolding(crate::specs::Read::read_at_directive, base::specs::Option::on_result, base::specs::Choice::pick))]
 fn read_at_directive(s: &[u8], c: Cursor) -> Reading
     ensures { result ≡ read_at_directive s.now c }
 {
     match c.next_char(s) {
-        Next::Done(d) => Err(lexer_error(AFTER_AT, d)),
-        Next::Got(ch, d) => {
-            if can_be_in_at_directive(ch) {
-                let from = c.at;
-                return read_directive(s, from, class_end(s, d, can_be_in_at_directive));
-            }
-            Err(lexer_error(AFTER_AT, d))
+        Ok((ch, d)) if can_be_in_at_directive(ch) => {
+            read_directive(s, c.at, class_end(s, d, can_be_in_at_directive))
         }
+        Ok((_, d)) | Err(d) => Err(lexer_error(AFTER_AT, d)),
     }
 }
 
@@ -130,25 +115,27 @@ fn read_directive(s: &[u8], from: usize, c: Cursor) -> Reading
 }
 
 // Behind a blank or a bracket, if one stands here.
+#[tactic(auto, unfolding(crate::specs::Read::skip_one, base::specs::Option::on_result, base::specs::Choice::pick))]
 fn skip_one(s: &[u8], bracket: u32, c: Cursor) -> Cursor
     ensures { result ≡ skip_one s.now bracket c }
 {
     match c.next_char(s) {
-        Next::Got(ch, d) if is_white_space(ch) || ch == bracket => d,
+        Ok((ch, d)) if is_white_space(ch) || ch == bracket => d,
         _ => c,
     }
 }
 
 // The string of an import, and at most one blank or bracket behind it.
+#[tactic(auto, unfolding(crate::specs::Read::read_import, base::specs::Option::on_result, base::specs::Choice::pick))]
 fn read_import(s: &[u8], c: Cursor) -> Reading
     ensures { result ≡ read_import s.now c }
 {
     match c.next_char(s) {
-        Next::Got(34, d) => {
+        Ok((34, d)) => {
             let (text, e) = read_quoted(s, d)?;
             Ok((Token::Import(text), skip_one(s, 41, e)))
         }
-        Next::Got(_, d) | Next::Done(d) => Err(lexer_error(IMPORT_STRING, d)),
+        Ok((_, d)) | Err(d) => Err(lexer_error(IMPORT_STRING, d)),
     }
 }
 
@@ -166,15 +153,13 @@ fn class_end<F: Fn(u32) -> bool>(s: &[u8], c: Cursor, goes_on: F) -> Cursor
     ensures { (p : ℕ → Bool) → ((ch : ℕ) (r : Bool) → F.post goes_on ch r → r ≡ p ch) → result ≡ class_end p s.now c }
 {
     let mut d = c;
-    loop {
-        let Next::Got(ch, e) = d.next_char(s) else {
-            return d;
-        };
+    while let Ok((ch, e)) = d.next_char(s) {
         if !goes_on(ch) {
-            return d;
+            break;
         }
         d = e;
     }
+    d
 }
 
 fn read_string(s: &[u8], c: Cursor) -> Reading
@@ -188,20 +173,18 @@ fn read_string(s: &[u8], c: Cursor) -> Reading
 fn read_quoted(s: &[u8], c: Cursor) -> Result<(Range, Cursor), LexerError>
     ensures { result ≡ read_quoted s.now c }
 {
-    let from = c.at;
     let mut d = c;
     loop {
-        let to = d.at;
-        match d.next_char(s) {
-            Next::Done(e) => {
-                return Err(lexer_error(OPEN_STRING, e));
-            }
-            Next::Got(ch, e) => {
-                if ch == 34 {
-                    return Ok((Range { from, to }, e));
-                }
-                d = e;
-            }
-        }
+        d = match d.next_char(s) {
+            Err(e) => return Err(lexer_error(OPEN_STRING, e)),
+            Ok((34, e)) => return Ok((
+                Range {
+                    from: c.at,
+                    to: d.at,
+                },
+                e,
+            )),
+            Ok((_, e)) => e,
+        };
     }
 }

@@ -11,7 +11,7 @@ use cursor::Cursor;
 pub mod signs;
 
 // A token. Ranges are places of the text; Text is the Rust's String.
-#[derive(Clone, Copy)]
+#[derive(Clone, Copy, PartialEq)]
 pub enum Token {
     Import(Range),
     Identifier(Range),

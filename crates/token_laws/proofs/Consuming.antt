@@ -13,7 +13,6 @@ use Rattle.base.specs.declared.Range.{Range}
 use Rattle.base.proofs.Loops.{Kept, turns_keep}
 use Rattle.space.specs.Space.{is_white_space}
 use Rattle.cursor.specs.Blank.{next_significant_char}
-use Rattle.cursor.specs.Elim.{on-Next}
 use Rattle.cursor.specs.Class.{in_span, can_be_in_at_directive, can_start_identifier, can_continue_identifier, to_digit}
 use Rattle.cursor.specs.Cursor.{start, next_char}
 use Rattle.cursor.specs.Number.{takes_dot, digits, digits_turn, read_digits}
@@ -25,7 +24,6 @@ use Rattle.cursor.specs.declared.number.Sum.{Sum}
 use Rattle.cursor.proofs.Onward.{read, read_within}
 use Rattle.cursor.proofs.Positions.{positioned}
 use Rattle.cursor.proofs.Reaching.{
-  split-Next,
   split-Significant,
   reach_on,
   reach_within,
@@ -54,6 +52,7 @@ use Rattle.token_kind.specs.declared.Token.{Token}
 use Rattle.token_zoom.specs.declared.Hex.{Hex}
 use Rattle.token_zoom.proofs.Digits.{digit_at}
 use Rattle.std.specs.Prelude.{Option, Some, None, is_none, ◌&&◌, Result, Ok, Err}
+use Rattle.base.specs.Option.{on_result2}
 
 -- an error's place, where at most the end was read once
 record Failing (s : Bytes) (c : Cursor) (line character : ℕ) : Type 0 where
@@ -121,11 +120,11 @@ one_bare k =
 -- a loop that goes on while characters fit
 module _ (s : Bytes) (c : Cursor) (f : ℕ → Bool) where
   abbrev word_turn : Cursor → Turn Cursor Cursor
-  word_turn d = on-Next (next_char s d) (λ e. done d) λ k e. pick (f k) (more e) (done d)
+  word_turn d = on_result2 (next_char s d) (λ e. done d) λ k e. pick (f k) (more e) (done d)
 
   word_turn_lem : (d : Cursor) → Reach s c 0 d → Kept (Reach s c 0) (Reach s c 0) (word_turn d)
   word_turn_lem d r =
-      split-Next (Kept (Reach s c 0) (Reach s c 0)) (next_char s d) _ _ (λ e q. r) λ k e q.
+      split_result2 (Kept (Reach s c 0) (Reach s c 0)) (next_char s d) _ _ (λ e q. r) λ k e q.
       pick_split (Kept (Reach s c 0) (Reach s c 0)) (f k) _ _ (λ t. on r q) (λ t. r)
 
   word_reach : (n : ℕ) → Reach s c 0 (turns word_turn c n c)
@@ -161,7 +160,7 @@ quoted_turn_lem :
     → Falls (Reach s c 0) (Quotation s c) (λ x. length s - x.at) (length s - d.at) (quoted_turn s c.at d)
 quoted_turn_lem s c d r =
     let P = Falls (Reach s c 0) (Quotation s c) (λ x. length s - x.at) (length s - d.at) in
-    split-Next P (next_char s d) _ _ (λ e q. failed_1 c.at open_string (over r q)) λ k e q.
+    split_result2 P (next_char s d) _ _ (λ e q. failed_1 c.at open_string (over r q)) λ k e q.
     let l = reach_on r in
     let h = read_within s d e k (read s d e k q) in
     pick_split P (eqb k 34) _ _
@@ -193,14 +192,14 @@ reads_string s from c h =
 skip_reach : (s : Bytes) (bracket : ℕ) (c : Cursor) → Reach s c 0 (skip_one s bracket c)
 unfolding skip_one
 skip_reach s bracket c =
-    split-Next (Reach s c 0) (next_char s c) _ _ (λ d q. here) λ k d q.
+    split_result2 (Reach s c 0) (next_char s c) _ _ (λ d q. here) λ k d q.
     pick_split (Reach s c 0) (is_white_space k) _ _ (λ t. on here q) λ t.
     pick_split (Reach s c 0) (eqb k bracket) _ _ (λ u. on here q) (λ u. here)
 
 reads_import : (s : Bytes) (from : ℕ) (c : Cursor) → from ≤ c.at → Reads s c from (read_import s c)
 unfolding read_import
 reads_import s from c h =
-    split-Next (Reads s c from) (next_char s c) _ _ (λ d q. failed_1 from import_string (reach_end q)) λ k d q.
+    split_result2 (Reads s c from) (next_char s c) _ _ (λ d q. failed_1 from import_string (reach_end q)) λ k d q.
     pick_split (Reads s c from) (eqb k 34) _ _
     (λ t.
     split_result2 (Reads s c from) (read_quoted s d) _ _
@@ -233,7 +232,7 @@ reads_directive s from from' c h g =
 reads_at : (s : Bytes) (from : ℕ) (c : Cursor) → from ≤ c.at → Reads s c from (read_at_directive s c)
 unfolding read_at_directive
 reads_at s from c h =
-    split-Next (Reads s c from) (next_char s c) _ _ (λ d q. failed_1 from after_at (reach_end q)) λ k d q.
+    split_result2 (Reads s c from) (next_char s c) _ _ (λ d q. failed_1 from after_at (reach_end q)) λ k d q.
     pick_split (Reads s c from) (can_be_in_at_directive k) _ _
     (λ t.
     let x = reach_more (reach_one q) (directive_reach s d) in
@@ -248,7 +247,7 @@ digits_turn_lem :
     → Kept (λ y. Reach s c 0 y.end) (λ y. Reach s c 0 y.end) (digits_turn s x)
 digits_turn_lem s c x r =
     let P : Turn Digits Digits → Type 0 = Kept (λ y. Reach s c 0 y.end) (λ y. Reach s c 0 y.end) in
-    split-Next P (next_char s x.end) _ _ (λ d q. r) λ k d q.
+    split_result2 P (next_char s x.end) _ _ (λ d q. r) λ k d q.
     split_option P (to_digit k 10) _ _
     (λ m. pick_split P (takes_dot x.sum k) _ _ (λ t. on r q) (λ t. r))
     (λ v m. on r q)
@@ -282,7 +281,7 @@ reads_unsigned s from minus ch c =
 reads_signed : (s : Bytes) (from : ℕ) (minus : Bool) (c : Cursor) → Reads s c from (read_signed s minus c)
 unfolding read_signed
 reads_signed s from minus c =
-    split-Next (Reads s c from) (next_char s c) _ _ (λ d q. failed_1 from nothing_after_sign (reach_end q)) λ k d q.
+    split_result2 (Reads s c from) (next_char s c) _ _ (λ d q. failed_1 from nothing_after_sign (reach_end q)) λ k d q.
     reads_more from (reach_one q) (read_unsigned s minus k d) (reads_unsigned s from minus k d)
 
 reads_number : (s : Bytes) (from ch : ℕ) (c : Cursor) → Reads s c from (read_number s ch c)
@@ -294,7 +293,7 @@ reads_number s from ch c =
 reads_after_minus : (s : Bytes) (from : ℕ) (c : Cursor) → from ≤ c.at → Reads s c from (read_after_minus s from c)
 unfolding read_after_minus
 reads_after_minus s from c h =
-    split-Next (Reads s c from) (next_char s c) _ _ (λ d q. failed_0 from after_minus here) λ k d q.
+    split_result2 (Reads s c from) (next_char s c) _ _ (λ d q. failed_0 from after_minus here) λ k d q.
     pick_split (Reads s c from) (in_span 48 57 k) _ _ (λ t. reads_number s from 45 c) λ t.
     pick_split (Reads s c from) (can_continue_identifier k) _ _
     (λ u. reads_identifier s from c h)
@@ -339,7 +338,7 @@ hyphen_reach : (s : Bytes) (c : Cursor) → Reach s c 0 (read_hyphen s c).1
 unfolding read_hyphen
 hyphen_reach s c =
     let P : Bool × Cursor → Type 0 = λ y. Reach s c 0 y.1 in
-    split-Next P (next_char s c) _ _ (λ d q. here) λ k d q.
+    split_result2 P (next_char s c) _ _ (λ d q. here) λ k d q.
     pick_split P (eqb k 45) _ _ (λ t. on here q) (λ t. here)
 
 reads_ranged :
@@ -364,7 +363,7 @@ reads_levels s from c =
 reads_zoom : (s : Bytes) (from : ℕ) (c : Cursor) → Reads s c from (read_zoom_range s c)
 unfolding read_zoom_range
 reads_zoom s from c =
-    split-Next (Reads s c from) (next_char s c) _ _ (λ d q. failed_1 from z_wanted (reach_end q)) λ k d q.
+    split_result2 (Reads s c from) (next_char s c) _ _ (λ d q. failed_1 from z_wanted (reach_end q)) λ k d q.
     pick_split (Reads s c from) (eqb k 122) _ _
     (λ t. reads_more from (reach_one q) (read_levels s d) (reads_levels s from d))
     (λ t. failed_0 from z_wanted (reach_one q))
@@ -401,7 +400,7 @@ Paired s c from (Some (t, d)) = Readied s c from t d
 reads_pair : (s : Bytes) (from ch : ℕ) (c : Cursor) → Paired s c from (read_pair s ch c)
 unfolding read_pair
 reads_pair s from ch c =
-    split-Next (Paired s c from) (next_char s c) _ _ (λ d q. tt) λ k d q.
+    split_result2 (Paired s c from) (next_char s c) _ _ (λ d q. tt) λ k d q.
     split_option (Paired s c from) (get_two_char_simple_token ch k) _ _ (λ m. tt) λ t m.
     record { reach = reach_one q; inside = subst Bare m (two_bare ch k) from d.at }
 

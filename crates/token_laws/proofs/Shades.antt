@@ -14,7 +14,7 @@ use Rattle.cursor.specs.Cursor.{next_char}
 use Rattle.cursor.specs.declared.Cursor.{Cursor}
 use Rattle.cursor.specs.declared.number.Digits.{Digits}
 use Rattle.cursor.specs.Number.{read_digits}
-use Rattle.cursor.proofs.Reaching.{split-Next, split-Significant}
+use Rattle.cursor.proofs.Reaching.{split-Significant}
 use Rattle.token_laws.specs.Claims.{ColorsSmall}
 use Rattle.token_number.specs.Number.{is_bare_dot, finish_number, first_digit, read_unsigned, read_signed, read_number}
 use Rattle.token.specs.Read.{
@@ -135,7 +135,7 @@ shown_string s c = split_result2 Shown (read_quoted s c) _ _ (λ e q. tt) (λ r 
 shown_import : (s : Bytes) (c : Cursor) → Shown (read_import s c)
 unfolding read_import
 shown_import s c =
-    split-Next Shown (next_char s c) _ _ (λ d q. tt) λ k d q.
+    split_result2 Shown (next_char s c) _ _ (λ d q. tt) λ k d q.
     pick_split Shown (eqb k 34) _ _
     (λ t. split_result2 Shown (read_quoted s d) _ _ (λ e m. tt) (λ r e m x z. no cc))
     (λ t. tt)
@@ -150,7 +150,7 @@ shown_directive s from c =
 shown_at : (s : Bytes) (c : Cursor) → Shown (read_at_directive s c)
 unfolding read_at_directive
 shown_at s c =
-    split-Next Shown (next_char s c) _ _ (λ d q. tt) λ k d q.
+    split_result2 Shown (next_char s c) _ _ (λ d q. tt) λ k d q.
     pick_split Shown (can_be_in_at_directive k) _ _
     (λ t. shown_directive s c.at (at_directive_end s d))
     (λ t. tt)
@@ -173,7 +173,7 @@ shown_unsigned s minus ch c =
 shown_signed : (s : Bytes) (minus : Bool) (c : Cursor) → Shown (read_signed s minus c)
 unfolding read_signed
 shown_signed s minus c =
-    split-Next Shown (next_char s c) _ _ (λ d q. tt) λ k d q. shown_unsigned s minus k d
+    split_result2 Shown (next_char s c) _ _ (λ d q. tt) λ k d q. shown_unsigned s minus k d
 
 shown_number : (s : Bytes) (ch : ℕ) (c : Cursor) → Shown (read_number s ch c)
 unfolding read_number
@@ -184,7 +184,7 @@ shown_number s ch c =
 shown_after_minus : (s : Bytes) (from : ℕ) (c : Cursor) → Shown (read_after_minus s from c)
 unfolding read_after_minus
 shown_after_minus s from c =
-    split-Next Shown (next_char s c) _ _ (λ d q. tt) λ k d q.
+    split_result2 Shown (next_char s c) _ _ (λ d q. tt) λ k d q.
     pick_split Shown (in_span 48 57 k) _ _ (λ t. shown_number s 45 c) λ t.
     pick_split Shown (can_continue_identifier k) _ _ (λ u. shown_identifier s from c) (λ u. tt)
 
@@ -203,7 +203,7 @@ shown_levels s c =
 shown_zoom : (s : Bytes) (c : Cursor) → Shown (read_zoom_range s c)
 unfolding read_zoom_range
 shown_zoom s c =
-    split-Next Shown (next_char s c) _ _ (λ d q. tt) λ k d q.
+    split_result2 Shown (next_char s c) _ _ (λ d q. tt) λ k d q.
     pick_split Shown (eqb k 122) _ _ (λ t. shown_levels s d) (λ t. tt)
 
 shown_other : (s : Bytes) (from ch : ℕ) (c : Cursor) → Shown (read_other s from ch c)
@@ -234,7 +234,7 @@ ShownPair (Some (t, d)) = Shade t
 shown_pair : (s : Bytes) (ch : ℕ) (c : Cursor) → ShownPair (read_pair s ch c)
 unfolding read_pair
 shown_pair s ch c =
-    split-Next ShownPair (next_char s c) _ _ (λ d q. tt) λ k d q.
+    split_result2 ShownPair (next_char s c) _ _ (λ d q. tt) λ k d q.
     split_option ShownPair (get_two_char_simple_token ch k) _ _ (λ m. tt) λ t m. subst ShownSign m (two_shown ch k)
 
 shown_token : (s : Bytes) (from ch : ℕ) (c : Cursor) → Shown (read_token s from ch c)

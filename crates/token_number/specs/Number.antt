@@ -7,14 +7,13 @@ use Rattle.base.specs.Choice.{pick}
 use Rattle.base.specs.Table.{zero_float}
 use Rattle.cursor.specs.Class.{to_digit}
 use Rattle.cursor.specs.Cursor.{next_char}
-use Rattle.cursor.specs.Elim.{on-Next}
 use Rattle.cursor.specs.Number.{sum, value, read_digits}
 use Rattle.cursor.specs.declared.Cursor.{Cursor}
 use Rattle.cursor.specs.declared.number.Digits.{Digits}
 use Rattle.cursor.specs.declared.number.Sum.{Sum}
 use Rattle.token_kind.specs.Reason.{Reading, nothing_after_sign, no_number_after_sign, no_fraction, lexer_error}
 use Rattle.token_kind.specs.declared.Token.TheVariants.{Number}
-use Rattle.base.specs.Option.{on_option}
+use Rattle.base.specs.Option.{on_option, on_result2}
 
 -- a dot, and no digit behind it
 unfoldable pub is_bare_dot : Sum → Bool
@@ -34,7 +33,7 @@ read_unsigned s minus ch c =
     λ digit. finish_number minus (read_digits s c (first_digit digit false))
 
 unfoldable pub read_signed : Bytes → Bool → Cursor → Reading
-read_signed s minus c = on-Next (next_char s c) (λ d. Err (lexer_error nothing_after_sign d)) λ ch d. read_unsigned s minus ch d
+read_signed s minus c = on_result2 (next_char s c) (λ d. Err (lexer_error nothing_after_sign d)) λ ch d. read_unsigned s minus ch d
 
 unfoldable pub read_number : Bytes → ℕ → Cursor → Reading
 read_number s ch c =

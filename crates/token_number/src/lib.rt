@@ -6,7 +6,7 @@ ghost use Rattle.token_number.specs.Number.{read_number, read_signed, read_unsig
 
 use base::refusal::{NO_FRACTION, NO_NUMBER_AFTER_SIGN, NOTHING_AFTER_SIGN};
 use cursor::number::{Digits, Sum, read_digits};
-use cursor::{Cursor, Next, to_digit};
+use cursor::{Cursor, to_digit};
 use token_kind::{Reading, Token, lexer_error};
 
 // The number whose first character is given; c is behind that.
@@ -23,10 +23,10 @@ pub fn read_number(s: &[u8], first: u32, c: Cursor) -> Reading
 fn read_signed(s: &[u8], minus: bool, c: Cursor) -> Reading
     ensures { result ≡ read_signed s.now minus c }
 {
-    match c.next_char(s) {
-        Next::Done(d) => Err(lexer_error(NOTHING_AFTER_SIGN, d)),
-        Next::Got(ch, d) => read_unsigned(s, minus, ch, d),
-    }
+    let (ch, d) = c
+        .next_char(s)
+        .map_err(|d| lexer_error(NOTHING_AFTER_SIGN, d))?;
+    read_unsigned(s, minus, ch, d)
 }
 
 // The number whose first digit or dot is ch; c is behind that.
@@ -34,13 +34,9 @@ fn read_unsigned(s: &[u8], minus: bool, ch: u32, c: Cursor) -> Reading
     ensures { result ≡ read_unsigned s.now minus ch c }
 {
     match to_digit(ch, 10) {
-        None => {
-            if ch == 46 {
-                return finish_number(minus, read_digits(s, c, first_digit(0, true)));
-            }
-            Err(lexer_error(NO_NUMBER_AFTER_SIGN, c))
-        }
         Some(digit) => finish_number(minus, read_digits(s, c, first_digit(digit, false))),
+        None if ch == 46 => finish_number(minus, read_digits(s, c, first_digit(0, true))),
+        None => Err(lexer_error(NO_NUMBER_AFTER_SIGN, c)),
     }
 }
 

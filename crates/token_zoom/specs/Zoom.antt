@@ -7,16 +7,15 @@ use Rattle.color.specs.Named.{rgb}
 use Rattle.color.specs.declared.Color.{Color as Rgb}
 use Rattle.cursor.specs.Class.{to_digit}
 use Rattle.cursor.specs.Cursor.{bump, next_char}
-use Rattle.cursor.specs.Elim.{on-Next}
 use Rattle.cursor.specs.declared.Cursor.{Cursor}
 use Rattle.token_kind.specs.Reason.{Reading, bad_color, z_wanted, empty_zoom_range, lexer_error}
 use Rattle.token_kind.specs.declared.Token.TheVariants.{ZoomRange, Color}
 use Rattle.token_zoom.specs.declared.Hex.{Hex}
-use Rattle.base.specs.Option.{on_option, on_option2}
+use Rattle.base.specs.Option.{on_option, on_option2, on_result2}
 
 unfoldable pub read_digit : Bytes → ℕ → Cursor → Option (ℕ × Cursor)
 read_digit s radix c =
-    on-Next (next_char s c) (λ d. None) λ ch d.
+    on_result2 (next_char s c) (λ d. None) λ ch d.
     on_option (to_digit ch radix) None λ digit.
     Some (digit, d)
 
@@ -59,7 +58,7 @@ read_zoom_level s c =
 
 unfoldable pub read_hyphen : Bytes → Cursor → Bool × Cursor
 read_hyphen s c =
-    on-Next (next_char s c) (λ d. (false, c)) λ ch d.
+    on_result2 (next_char s c) (λ d. (false, c)) λ ch d.
     pick (eqb ch 45) (true, d) (false, c)
 
 -- the second level counts only after a hyphen
@@ -82,5 +81,5 @@ read_levels s c =
 
 unfoldable pub read_zoom_range : Bytes → Cursor → Reading
 read_zoom_range s c =
-    on-Next (next_char s c) (λ d. Err (lexer_error z_wanted d)) λ ch d.
+    on_result2 (next_char s c) (λ d. Err (lexer_error z_wanted d)) λ ch d.
     pick (eqb ch 122) (read_levels s d) (Err (lexer_error z_wanted d))

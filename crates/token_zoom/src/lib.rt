@@ -6,7 +6,7 @@ ghost use Rattle.token_zoom.specs.Zoom.{read_color, read_hex_digits, hex_added, 
 
 use base::refusal::{COLOR, EMPTY_ZOOM_RANGE, Z_WANTED};
 use color::Color;
-use cursor::{Cursor, Next, bump, to_digit};
+use cursor::{Cursor, bump, to_digit};
 use token_kind::{Reading, Token, lexer_error};
 
 // The hexadecimal digits so far: how many, and the last of them as a number.
@@ -17,19 +17,16 @@ pub struct Hex {
     pub end: Cursor,
 }
 
+#[tactic(auto, unfolding(crate::specs::Zoom::read_color, base::specs::Choice::pick))]
 pub fn read_color(s: &[u8], c: Cursor) -> Reading
     ensures { result ≡ read_color s.now c }
 {
     let hex = read_hex_digits(s, c);
-    let count = hex.count;
-    let end = hex.end;
-    if count == 6 {
-        return Ok((Token::Color(six_digits(hex.value)), end));
+    match hex.count {
+        6 => Ok((Token::Color(six_digits(hex.value)), hex.end)),
+        3 => Ok((Token::Color(three_digits(hex.value)), hex.end)),
+        _ => Err(lexer_error(COLOR, hex.end)),
     }
-    if count == 3 {
-        return Ok((Token::Color(three_digits(hex.value)), end));
-    }
-    Err(lexer_error(COLOR, end))
 }
 
 fn read_hex_digits(s: &[u8], c: Cursor) -> Hex
@@ -82,12 +79,13 @@ fn three_digits(value: u32) -> Color
     }
 }
 
+#[tactic(auto, unfolding(crate::specs::Zoom::read_zoom_range, base::specs::Option::on_result, base::specs::Choice::pick))]
 pub fn read_zoom_range(s: &[u8], c: Cursor) -> Reading
     ensures { result ≡ read_zoom_range s.now c }
 {
     match c.next_char(s) {
-        Next::Got(122, d) => read_levels(s, d),
-        Next::Got(_, d) | Next::Done(d) => Err(lexer_error(Z_WANTED, d)),
+        Ok((122, d)) => read_levels(s, d),
+        Ok((_, d)) | Err(d) => Err(lexer_error(Z_WANTED, d)),
     }
 }
 
@@ -117,11 +115,12 @@ fn ranged(min: Option<u8>, had: bool, max: Option<u8>, end: Cursor) -> Reading
     Ok((Token::ZoomRange(min, upper), end))
 }
 
+#[tactic(auto, unfolding(crate::specs::Zoom::read_hyphen, base::specs::Option::on_result, base::specs::Choice::pick))]
 fn read_hyphen(s: &[u8], c: Cursor) -> (bool, Cursor)
     ensures { result ≡ read_hyphen s.now c }
 {
     match c.next_char(s) {
-        Next::Got(45, d) => (true, d),
+        Ok((45, d)) => (true, d),
         _ => (false, c),
     }
 }
@@ -139,14 +138,11 @@ fn read_zoom_level(s: &[u8], c: Cursor) -> (Option<u8>, Cursor)
     }
 }
 
+#[tactic(auto, unfolding(crate::specs::Zoom::read_digit, base::specs::Option::on_option, base::specs::Option::on_result))]
 fn read_digit(s: &[u8], radix: u8, c: Cursor) -> Option<(u8, Cursor)>
     ensures { result ≡ read_digit s.now radix c }
 {
-    match c.next_char(s) {
-        Next::Done(_) => None,
-        Next::Got(ch, d) => {
-            let digit = to_digit(ch, radix)?;
-            Some((digit, d))
-        }
-    }
+    let (ch, d) = c.next_char(s).ok()?;
+    let digit = to_digit(ch, radix)?;
+    Some((digit, d))
 }

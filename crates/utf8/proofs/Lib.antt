@@ -2,3 +2,4 @@ pub mod Rows
 pub mod Going
 pub mod Inverse
 pub mod Texts
+pub mod Bytes

@@ -28,9 +28,10 @@ fn scan() -> Tally {
     Tally { values, found }
 }
 
-// Whether the encoding of a number gives the number, with the encoding's width.
+// Whether a number has an encoding that gives the number, with the encoding's width.
 fn is_found(k: u32) -> bool {
-    let e = scalar::encode(k);
-    let bytes = e.bytes;
-    matches!(utf8::char_at(&bytes, 0), Char::Code(c, w) if c == k && w == e.width)
+    let Some(e) = scalar::encode(k) else {
+        return false;
+    };
+    matches!(utf8::char_at(&e.bytes, 0), Char::Code(c, w) if c == k && w == e.width)
 }

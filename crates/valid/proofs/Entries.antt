@@ -12,6 +12,10 @@ use Rattle.std.specs.List.{list_all}
 use Rattle.valid.proofs.Below.{all_is}
 use mathlib.Core.Bool.{Bool}
 use lib.ListN.{length-take}
+use lib.Dec.{leb}
+use borrow.Author.Tests.{leb-false}
+use Rattle.base.specs.Choice.{pick, by-test}
+use Rattle.base.specs.Table.{zero_float}
 use Rattle.valid.specs.Valid.{all_below, two_zeros, marked_span, rule_sound, selector_sound, named_entry, number_value, test_value, test_sound, one_span, two_spans, color_words, delta_words, value_sound, property_sound}
 
 -- an entry is the words from its place on
@@ -48,6 +52,22 @@ module _ (t : List ℕ) (n i : ℕ) (room : n * 8 ≤ length t) (below : i < n) 
   unfolding property_sound named_entry value_sound one_span two_spans color_words delta_words two_zeros
   property_entry m b = simp (at 0 (omega arith), at 1 (omega arith), at 2 (omega arith), at 3 (omega arith), at 4 (omega arith), at 5 (omega arith), at 6 (omega arith), at 7 (omega arith)) refl
 
+-- the numbers below a count, in place of all of them and the count
+module _ (xs : List Float) (m : ℕ) (room : m ≤ length xs) where
+  count_is : length (take m xs) ≡ m
+  count_is = omega (arith, length-take m xs)
+
+  first_number : (t : List ℕ) (k i : ℕ) → number_value t (take m xs) k (length (take m xs)) i ≡ number_value t xs k m i
+  unfolding number_value pick
+  first_number t k i =
+      by-test (leb m (word_at t i 6))
+      (λ a. rw (count_is, a))
+      (λ a. rw (count_is, a, get_or-take m xs (word_at t i 6) zero_float (omega (arith, leb-false m (word_at t i 6) a))))
+
+  pub first_numbers : (t : List ℕ) (b i : ℕ) → test_sound t (take m xs) (length (take m xs)) b i ≡ test_sound t xs m b i
+  unfolding test_sound test_value
+  first_numbers t b i = rw (first_number t (word_at t i 0) i)
+
 -- the entries of a table that are judged one after another
 module _ (t : List ℕ) (n : ℕ) (room : n * 8 ≤ length t) (xs : List (List ℕ)) (front : xs ≡ first_chunks 8 (length t / 8) t)
     (len : length xs ≡ length t / 8) (r : Bool) where
@@ -73,8 +93,15 @@ module _ (t : List ℕ) (n : ℕ) (room : n * 8 ≤ length t) (xs : List (List �
   pub selectors_are : (s b : ℕ) → r ≡ list_all (λ e. selector_sound e s b 0) (take n xs) → r ≡ all_below (selector_sound t s b) n
   selectors_are s b = judged (λ e. selector_sound e s b 0) (selector_sound t s b) (λ i g. selector_entry t n i room g s b)
 
-  pub tests_are : (ys : List Float) (m b : ℕ) → r ≡ list_all (λ e. test_sound e ys m b 0) (take n xs) → r ≡ all_below (test_sound t ys m b) n
-  tests_are ys m b = judged (λ e. test_sound e ys m b 0) (test_sound t ys m b) (λ i g. test_entry t n i room g ys m b)
+  pub tests_are :
+      (ys : List Float) (m b : ℕ)
+      → m ≤ length ys
+      → r ≡ list_all (λ e. test_sound e (take m ys) (length (take m ys)) b 0) (take n xs)
+      → r ≡ all_below (test_sound t ys m b) n
+  tests_are ys m b h =
+      judged
+      (λ e. test_sound e (take m ys) (length (take m ys)) b 0) (test_sound t ys m b)
+      (λ i g. first_numbers ys m h (get_or (first_chunks 8 (length t / 8) t) i []) b 0 ∙ test_entry t n i room g ys m b)
 
   pub properties_are : (m b : ℕ) → r ≡ list_all (λ e. property_sound e m b 0) (take n xs) → r ≡ all_below (property_sound t m b) n
   properties_are m b = judged (λ e. property_sound e m b 0) (property_sound t m b) (λ i g. property_entry t n i room g m b)

@@ -1,3 +1,4 @@
 pub mod Below
+pub mod Judged
 pub mod Entries
 pub mod Room

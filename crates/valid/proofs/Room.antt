@@ -25,10 +25,12 @@ pub counts_room :
     × (n.selectors * 8 ≤ selectors)
     × (n.tests * 8 ≤ tests)
     × (n.properties * 8 ≤ properties)
-unfolding counts_held
+    × (n.numbers ≤ numbers)
+unfolding counts_held capacity_of
 counts_room rules selectors tests properties numbers n e =
     let a = both _ _ e in
     let b = both _ _ a.1 in
     let d = both _ _ b.1 in
     let f = both _ _ d.1 in
-    (room _ _ a.0, room _ _ b.0, room _ _ d.0, room _ _ f.0)
+    let h = leb-true n.numbers (capacity_of 1 numbers) f.1 in
+    (room _ _ a.0, room _ _ b.0, room _ _ d.0, room _ _ f.0, omega arith)

@@ -1,15 +1,17 @@
 // Whether handed tables are sound, every entry below the counts: what refusal 22 judges.
 #![tactic(auto)]
 
-ghost use Rattle.std.specs.Prelude.{◌≡◌, ℕ, Bool, eqb, ◌<◌, [], ◌∷◌, length};
+ghost use Rattle.std.specs.Prelude.{◌≡◌, ℕ, Bool, eqb, ◌<◌, [], ◌∷◌, length, Ok, Err};
 ghost use Rattle.table.specs.Value.{word_at};
 ghost use Rattle.valid.specs.Valid.{span_in, marked_span, rule_sound, selector_sound, named_entry, test_sound, test_value, number_value, property_sound, value_sound, one_span, color_words, all_below, entries_held, counts_held, tables_sound};
 ghost use Rattle.base.specs.Choice.{pick};
+ghost use Rattle.base.specs.Refusal.{refusal};
 
+use base::refusal::{Refusal, TABLE_BROKEN};
 use table::Tables;
 
 // How many entries each table holds. No styling reads the table of colours.
-#[derive(Clone, Copy)]
+#[derive(Clone, Copy, Default)]
 pub struct Counts {
     pub rules: usize,
     pub selectors: usize,
@@ -45,13 +47,12 @@ pub fn is_sound(
     let selectors = &selectors.as_chunks::<8>().0[..n.selectors];
     let tests = &tests.as_chunks::<8>().0[..n.tests];
     let properties = &properties.as_chunks::<8>().0[..n.properties];
+    let numbers = &numbers[..n.numbers];
     rules
         .iter()
         .all(|e| rule_sound(e, n.selectors, n.properties))
         && selectors.iter().all(|e| selector_sound(e, n.tests, bundle))
-        && tests
-            .iter()
-            .all(|e| test_sound(e, numbers, n.numbers, bundle))
+        && tests.iter().all(|e| test_sound(e, numbers, bundle))
         && properties
             .iter()
             .all(|e| property_sound(e, n.numbers, bundle))
@@ -70,6 +71,17 @@ pub fn are_sound(tables: &Tables, n: Counts) -> bool
         n,
         tables.bundle.len(),
     )
+}
+
+// Refusal 22 where they are not.
+#[tactic(auto, unfolding(base::specs::Choice::pick))]
+pub fn judge(tables: &Tables, n: Counts) -> Result<(), Refusal>
+    ensures { result ≡ pick (tables_sound tables.now.rules.now tables.now.selectors.now tables.now.tests.now tables.now.properties.now tables.now.numbers.now n (length tables.now.bundle.now)) (Ok tt) (Err (refusal 22 0 0 0 0)) }
+{
+    if are_sound(tables, n) {
+        return Ok(());
+    }
+    Err(Refusal::plain(TABLE_BROKEN))
 }
 
 #[tactic(auto, unfolding(crate::specs::Valid::entries_held))]
@@ -145,33 +157,31 @@ fn named(e: &[u32; 8], most: usize, bundle: usize) -> bool
 }
 
 #[tactic(auto, unfolding(base::specs::Choice::pick, crate::specs::Valid::test_sound, crate::specs::Valid::marked_span))]
-fn test_sound(e: &[u32; 8], xs: &[f64], numbers: usize, bundle: usize) -> bool
-    ensures { result ≡ test_sound e.now xs.now numbers bundle 0 }
+fn test_sound(e: &[u32; 8], numbers: &[f64], bundle: usize) -> bool
+    ensures { result ≡ test_sound e.now numbers.now (length numbers.now) bundle 0 }
 {
-    named(e, 12, bundle)
-        && marked_span(e[3], e[4], e[5], bundle)
-        && test_value(e, xs, numbers, bundle)
+    named(e, 12, bundle) && marked_span(e[3], e[4], e[5], bundle) && test_value(e, numbers, bundle)
 }
 
 // The value of a test by its kind: none, a range of the bundle, or a number.
 #[tactic(auto, unfolding(base::specs::Choice::pick, crate::specs::Valid::test_value, crate::specs::Valid::two_zeros))]
-fn test_value(e: &[u32; 8], xs: &[f64], numbers: usize, bundle: usize) -> bool
-    ensures { result ≡ test_value e.now xs.now numbers bundle 0 }
+fn test_value(e: &[u32; 8], numbers: &[f64], bundle: usize) -> bool
+    ensures { result ≡ test_value e.now numbers.now (length numbers.now) bundle 0 }
 {
     match e[0] {
         0..=4 => e[6] == 0 && e[7] == 0,
         5 | 6 => span_in(e[6], e[7], bundle),
-        _ => number_value(e, xs, numbers),
+        _ => number_value(e, numbers),
     }
 }
 
 // The place of a number; a whole one for the kinds 7 and 8.
 #[tactic(auto, unfolding(base::specs::Choice::pick, crate::specs::Valid::number_value))]
-fn number_value(e: &[u32; 8], xs: &[f64], numbers: usize) -> bool
-    ensures { result ≡ number_value e.now xs.now (word_at e.now 0 0) numbers 0 }
+fn number_value(e: &[u32; 8], numbers: &[f64]) -> bool
+    ensures { result ≡ number_value e.now numbers.now (word_at e.now 0 0) (length numbers.now) 0 }
 {
     let place = e[6] as usize;
-    place < numbers && e[7] == 0 && (8 < e[0] || digits::is_whole(base::float_at(xs, place)))
+    place < numbers.len() && e[7] == 0 && (8 < e[0] || digits::is_whole(numbers[place]))
 }
 
 #[tactic(auto, unfolding(base::specs::Choice::pick, crate::specs::Valid::property_sound))]

@@ -186,11 +186,11 @@ less_zero n = omega arith
 
 -- ---- runs
 
-pub told_stop : (r : Result ℕ ℕ) (t : List ℕ) (x : Run) (k : ℕ) → told r t ≡ x → r ≡ Err k → x ≡ stop k
-told_stop r t x k e m = sym e ∙ ap (λ q. told q t) m
+pub told_stop : (r : Result (Unit {0}) ℕ) (n : ℕ) (t : List ℕ) (x : Run) (k : ℕ) → told r n t ≡ x → r ≡ Err k → x ≡ stop k
+told_stop r n t x k e m = sym e ∙ ap (λ q. told q n t) m
 
-pub told_going : (r : Result ℕ ℕ) (t : List ℕ) (x : Run) (n : ℕ) → told r t ≡ x → r ≡ Ok n → x ≡ going n t
-told_going r t x n e m = sym e ∙ ap (λ q. told q t) m
+pub told_going : (r : Result (Unit {0}) ℕ) (n : ℕ) (t : List ℕ) (x : Run) (u : Unit {0}) → told r n t ≡ x → r ≡ Ok u → x ≡ going n t
+told_going r n t x u e m = sym e ∙ ap (λ q. told q n t) m
 
 pub bind_stop : (x : Run) (f : ℕ → List ℕ → Run) (k : ℕ) → x ≡ stop k → bind x f ≡ stop k
 unfolding bind
@@ -211,14 +211,14 @@ module _ (name : ℕ → Bytes) (t : List ℕ) (m i : ℕ) (ps : List ℕ) where
   unfolding assign_all
   all_end h = ap (λ k. assign_all name t m i k ps) (none_left i m h)
 
-  module _ (h : i < m) (r : Result ℕ ℕ) (t' : List ℕ) (e : told r t' ≡ assign_at name t m i ps) where
+  module _ (h : i < m) (r : Result (Unit {0}) ℕ) (n : ℕ) (t' : List ℕ) (e : told r n t' ≡ assign_at name t m i ps) where
     pub all_stop : (k : ℕ) → r ≡ Err k → assign_all name t m i (m - i) ps ≡ stop k
     unfolding assign_all
-    all_stop k q = ap (λ k. assign_all name t m i k ps) (one_less i m h) ∙ bind_stop _ _ k (told_stop r t' _ k e q)
+    all_stop k q = ap (λ k. assign_all name t m i k ps) (one_less i m h) ∙ bind_stop _ _ k (told_stop r n t' _ k e q)
 
-    pub all_next : (n : ℕ) → r ≡ Ok n → assign_all name t m i (m - i) ps ≡ assign_all name t' m (i + 1) (m - (i + 1)) ps
+    pub all_next : (u : Unit {0}) → r ≡ Ok u → assign_all name t m i (m - i) ps ≡ assign_all name t' m (i + 1) (m - (i + 1)) ps
     unfolding assign_all
-    all_next n q = ap (λ k. assign_all name t m i k ps) (one_less i m h) ∙ bind_going _ _ n t' (told_going r t' _ n e q)
+    all_next u q = ap (λ k. assign_all name t m i k ps) (one_less i m h) ∙ bind_going _ _ n t' (told_going r n t' _ u e q)
 
 -- ---- one selector
 

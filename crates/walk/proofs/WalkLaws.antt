@@ -6,9 +6,9 @@ use mathlib.Core.Bool.{Bool, true, false, not}
 use mathlib.Core.List.{List}
 use lib.Ieee.{Float}
 use lib.ListN.{length, replicate}
-use borrow.Author.Tests.{leb-true, lt-ltb, le-ltb, not-true, not-false}
+use borrow.Author.Tests.{leb-true, lt-ltb, le-ltb, not-false}
 use Rattle.base.specs.Bytes.{Bytes}
-use Rattle.base.specs.Choice.{pick, via, if_true, if_false}
+use Rattle.base.specs.Choice.{pick, via, if_true, if_false, by-test}
 use Rattle.base.specs.Refusal.{refusal, of_entity}
 use Rattle.base.specs.Table.{capacity_of}
 use Rattle.base.specs.declared.refusal.Refusal.{Refusal}
@@ -25,7 +25,10 @@ use Rattle.walk.proofs.LayerLaws.{told_stop, told_going, bind_stop, bind_going, 
 use Rattle.walk.specs.Run.{Run, stop, going, told, seek, step_of, on_verdict, hit_of, selectors_of, rule_of, rules_of}
 use Rattle.walk.specs.Maps.{no_rows, finish, walk_of, maps_of, layer_place}
 use Rattle.walk.specs.Selectors.{layer_in, verdict_in}
-use Rattle.std.specs.Prelude.{Option, None, Result, Ok, Err}
+use Rattle.walk.specs.Walking.{Given, given, names, layers, verdicts}
+use Rattle.walk.specs.declared.Walk.{Walk}
+use Rattle.std.specs.Prelude.{Option, None, Result, Ok, Err, is_ok}
+use Rattle.std.proofs.Common.{true≢false}
 use Rattle.walk.specs.Rows.{below}
 use Rattle.walk.proofs.RowLaws.{below_none}
 use Rattle.base.specs.Option.{result_err, result_ok}
@@ -35,36 +38,36 @@ module _ (name layer : ℕ → Bytes) (verdict_of : ℕ → Verdict) (t : List �
   unfolding selectors_of
   selectors_end h = ap (λ k. selectors_of name layer verdict_of t n s k ps) (none_left s end h)
 
-  module _ (h : s < end) (r : Result ℕ ℕ) (t' : List ℕ) (e : told r t' ≡ hit_of name layer verdict_of t n s ps) where
+  module _ (h : s < end) (r : Result (Unit {0}) ℕ) (m : ℕ) (t' : List ℕ) (e : told r m t' ≡ hit_of name layer verdict_of t n s ps) where
     pub selectors_stop : (k : ℕ) → r ≡ Err k → selectors_of name layer verdict_of t n s (end - s) ps ≡ stop k
     unfolding selectors_of
-    selectors_stop k q = ap (λ k. selectors_of name layer verdict_of t n s k ps) (one_less s end h) ∙ bind_stop _ _ k (told_stop r t' _ k e q)
+    selectors_stop k q = ap (λ k. selectors_of name layer verdict_of t n s k ps) (one_less s end h) ∙ bind_stop _ _ k (told_stop r m t' _ k e q)
 
     pub selectors_next :
-        (m : ℕ)
-        → r ≡ Ok m
+        (u : Unit {0})
+        → r ≡ Ok u
         → selectors_of name layer verdict_of t n s (end - s) ps ≡ selectors_of name layer verdict_of t' m (s + 1) (end - (s + 1)) ps
     unfolding selectors_of
-    selectors_next m q =
+    selectors_next u q =
         ap (λ k. selectors_of name layer verdict_of t n s k ps) (one_less s end h)
-        ∙ bind_going _ _ m t' (told_going r t' _ m e q)
+        ∙ bind_going _ _ m t' (told_going r m t' _ u e q)
 
 module _ (name layer : ℕ → Bytes) (verdict_of : ℕ → Verdict) (rules t : List ℕ) (n r total : ℕ) where
   pub rules_end : total ≤ r → rules_of name layer verdict_of rules t n r (total - r) ≡ going n t
   unfolding rules_of
   rules_end h = ap (rules_of name layer verdict_of rules t n r) (none_left r total h)
 
-  module _ (h : r < total) (a : Result ℕ ℕ) (t' : List ℕ) (e : told a t' ≡ rule_of name layer verdict_of rules t n r) where
+  module _ (h : r < total) (a : Result (Unit {0}) ℕ) (m : ℕ) (t' : List ℕ) (e : told a m t' ≡ rule_of name layer verdict_of rules t n r) where
     pub rules_stop : (k : ℕ) → a ≡ Err k → rules_of name layer verdict_of rules t n r (total - r) ≡ stop k
     unfolding rules_of
-    rules_stop k q = ap (rules_of name layer verdict_of rules t n r) (one_less r total h) ∙ bind_stop _ _ k (told_stop a t' _ k e q)
+    rules_stop k q = ap (rules_of name layer verdict_of rules t n r) (one_less r total h) ∙ bind_stop _ _ k (told_stop a m t' _ k e q)
 
     pub rules_next :
-        (m : ℕ)
-        → a ≡ Ok m
+        (u : Unit {0})
+        → a ≡ Ok u
         → rules_of name layer verdict_of rules t n r (total - r) ≡ rules_of name layer verdict_of rules t' m (r + 1) (total - (r + 1))
     unfolding rules_of
-    rules_next m q = ap (rules_of name layer verdict_of rules t n r) (one_less r total h) ∙ bind_going _ _ m t' (told_going a t' _ m e q)
+    rules_next u q = ap (rules_of name layer verdict_of rules t n r) (one_less r total h) ∙ bind_going _ _ m t' (told_going a m t' _ u e q)
 
 -- the words of a rule
 pub rule_is :
@@ -103,19 +106,30 @@ module _ (name layer : ℕ → Bytes) (verdict_of : ℕ → Verdict) (t : List �
 pub zeroed : (n : ℕ) (u : List ℕ) → u ≡ replicate n 0 → n ≡ 4323 → u ≡ no_rows
 zeroed n u e p = e ∙ ap (λ k. replicate k 0) p
 
-module _ (multipolygons : Bool) (place : ℕ) (q : Result ℕ ℕ) (t u : List ℕ) where
+module _ (multipolygons : Bool) (place : ℕ) (q : Result (Unit {0}) ℕ) (n : ℕ) (t : List ℕ) where
   pub finish_refused :
-      (k : ℕ) (e : Refusal)
+      (u : List ℕ) (k : ℕ) (e : Refusal)
       → q ≡ Err k
       → e ≡ of_entity k multipolygons place
       → u ≡ no_rows
-      → (Err e, u) ≡ finish multipolygons place (told q t)
+      → (Err e, u) ≡ finish multipolygons place (told q n t)
   unfolding finish
-  finish_refused k e y z w = ap₂ (λ x v. (Err x, v)) z w ∙ sym (ap (λ a. finish multipolygons place (told a t)) y)
+  finish_refused u k e y z w = ap₂ (λ x v. (Err x, v)) z w ∙ sym (ap (λ a. finish multipolygons place (told a n t)) y)
 
-  pub finish_going : (n : ℕ) → q ≡ Ok n → (Ok n, t) ≡ finish multipolygons place (told q t)
+  pub finish_going : (x : Unit {0}) → q ≡ Ok x → (Ok n, t) ≡ finish multipolygons place (told q n t)
   unfolding finish
-  finish_going n y = sym (ap (λ a. finish multipolygons place (told a t)) y)
+  finish_going x y = sym (ap (λ a. finish multipolygons place (told a n t)) y)
+
+-- what a judge's answer says of what it judged
+module _ (b : Bool) (e : Refusal) {r : Result (Unit {0}) Refusal} (i : r ≡ pick b (Ok tt) (Err e)) where
+  pub judged_ok : {o : Unit {0}} → r ≡ Ok o → b ≡ true
+  judged_ok y = by-test b (λ t. t) (λ f. absurd (true≢false (ap is_ok (sym y ∙ i ∙ sym (if_false _ _ _ f refl)))))
+
+  pub judged_err : {d : Refusal} → r ≡ Err d → (b ≡ false) × (d ≡ e)
+  judged_err y =
+      by-test b
+      (λ t. absurd (true≢false (ap is_ok (if_true _ _ _ t refl ∙ sym i ∙ y))))
+      (λ f. (f, let p = sym y ∙ i ∙ sym (if_false _ _ _ f refl) in cc))
 
 held_first : (b x : Bool) → pick b x false ≡ true → b ≡ true
 unfolding pick
@@ -133,36 +147,38 @@ module _ (bundle rules selectors tests properties : List ℕ) (numbers : List Fl
   pub rules_few : (b : Bool) → b ≡ sound → not b ≡ false → n.rules ≤ 16384
   rules_few b i y = few (via i (not-false b y))
 
-  module _ (zoom : ℕ) (entity : Bytes) (b : Bool) (i : b ≡ sound) where
+  module _ (zoom : ℕ) (entity : Bytes) (b : Result (Unit {0}) Refusal) (i : b ≡ pick sound (Ok tt) (Err (refusal 22 0 0 0 0)))
+      (x : Result ℕ Refusal) (u : List ℕ) where
     pub maps_broken :
-        not b ≡ true
-        → (u : List ℕ)
-        → u ≡ no_rows
+        u ≡ no_rows
         → (e : Refusal)
-        → e ≡ refusal 22 0 0 0 0
-        → (Err e, u) ≡ maps_of bundle rules selectors tests properties numbers n zoom entity
+        → b ≡ Err e
+        → x ≡ Err e
+        → (x, u) ≡ maps_of bundle rules selectors tests properties numbers n zoom entity
     unfolding maps_of
-    maps_broken y u z e w = if_false _ _ _ (via i (not-true b y)) (ap₂ (λ x v. (Err x, v)) w z)
+    maps_broken z e y w =
+        let j = judged_err sound (refusal 22 0 0 0 0) i y in
+        if_false _ _ _ j.0 (ap₂ (λ (x : Result ℕ Refusal) (v : List ℕ). (x, v)) (w ∙ ap Err j.1) z)
 
-    module _ (y : not b ≡ false) (q : Result EntityRange Refusal) (j : q ≡ single_of entity) where
+    module _ (o : Unit {0}) (y : b ≡ Ok o) (q : Result EntityRange Refusal) (j : q ≡ single_of entity) where
       pub maps_bad :
-          (u : List ℕ)
-          → u ≡ no_rows
+          u ≡ no_rows
           → (e : Refusal)
           → q ≡ Err e
-          → (Err e, u) ≡ maps_of bundle rules selectors tests properties numbers n zoom entity
+          → x ≡ Err e
+          → (x, u) ≡ maps_of bundle rules selectors tests properties numbers n zoom entity
       unfolding maps_of
-      maps_bad u z e w =
-          if_true _ _ _ (via i (not-false b y)) (result_err _ _ _ (via j w) (ap (λ v. (Err e, v)) z))
+      maps_bad z e w m =
+          if_true _ _ _ (judged_ok sound (refusal 22 0 0 0 0) i y)
+          (result_err _ _ _ (via j w) (ap₂ (λ (x : Result ℕ Refusal) (v : List ℕ). (x, v)) m z))
 
       pub maps_walked :
           (e : EntityRange)
           → q ≡ Ok e
-          → (x : Result ℕ Refusal × List ℕ)
-          → x ≡ walk_of bundle rules selectors tests properties numbers n.rules zoom entity e false 0
-          → x ≡ maps_of bundle rules selectors tests properties numbers n zoom entity
+          → (x, u) ≡ walk_of bundle rules selectors tests properties numbers n.rules zoom entity e false 0
+          → (x, u) ≡ maps_of bundle rules selectors tests properties numbers n zoom entity
       unfolding maps_of
-      maps_walked e w x walked = if_true _ _ _ (via i (not-false b y)) (result_ok _ _ _ (via j w) walked)
+      maps_walked e w walked = if_true _ _ _ (judged_ok sound (refusal 22 0 0 0 0) i y) (result_ok _ _ _ (via j w) walked)
 
 -- ---- the walk alone
 
@@ -198,6 +214,21 @@ module _ (bundle rules selectors tests properties : List ℕ) (numbers : List Fl
       (λ (d : List ℕ).
       rules_of (name_at bundle properties) (layer_in bundle selectors)
       (verdict_in bundle selectors tests numbers zoom entity e) rules d 0 0 total) z))
+
+-- what holds of what a walk was given holds of what it still has
+pub as_given :
+    {B : Type 0} (f : (ℕ → Bytes) → (ℕ → Bytes) → (ℕ → Verdict) → List ℕ → B) (w v : Walk)
+    → given w ≡ given v
+    → f (names w) (layers w) (verdicts w) w.tables.now.rules.now ≡ f (names v) (layers v) (verdicts v) v.tables.now.rules.now
+as_given f w v e =
+    ap
+    (λ (g : Given).
+    f (name_at g.0.now.bundle.now g.0.now.properties.now) (layer_in g.0.now.bundle.now g.0.now.selectors.now)
+    (verdict_in g.0.now.bundle.now g.0.now.selectors.now g.0.now.tests.now g.0.now.numbers.now g.1 g.2.bytes.now g.2.range)
+    g.0.now.rules.now) e
+
+pub same_rows : (w v : Walk) → given w ≡ given v → w.rows.ghost_name ≡ v.rows.ghost_name
+same_rows w v e = ap (λ (g : Given). g.3) e
 
 pub place_many : (layer : ℕ → Bytes) (t : List ℕ) (n : ℕ) (name : Bytes) → 32 < n → None ≡ below n (layer_place layer t n name)
 unfolding layer_place

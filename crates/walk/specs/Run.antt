@@ -13,10 +13,10 @@ pub data Run : Type 0 where
   stop : ℕ → Run
   going : ℕ → List ℕ → Run
 
--- what an answer tells, beside the table that it leaves: after a refusal the table is not spoken of
-abbrev pub told : Result ℕ ℕ → List ℕ → Run
-told (Err k) t = stop k
-told (Ok n) t = going n t
+-- what an answer tells, beside the count and the table that it leaves: after a refusal they are not spoken of
+abbrev pub told : Result (Unit {0}) ℕ → ℕ → List ℕ → Run
+told (Err k) n t = stop k
+told (Ok u) n t = going n t
 
 unfoldable pub bind : Run → (ℕ → List ℕ → Run) → Run
 bind (stop k) f = stop k

@@ -2,11 +2,11 @@
 #![tactic(auto)]
 
 ghost use Rattle.std.specs.Prelude.{◌≡◌, ◌≤◌, ◌<◌};
-ghost use Rattle.decode.specs.Decode.{name_at};
-ghost use Rattle.walk.specs.Maps.{finish, walk_of, maps_of, few, layer_place};
+ghost use Rattle.walk.specs.Maps.{no_rows, walk_of, maps_of, few, layer_place};
 ghost use Rattle.walk.specs.Rows.{below, numbers_in};
 ghost use Rattle.walk.specs.Run.{told, hit_of, rule_of, rules_of};
-ghost use Rattle.walk.specs.Selectors.{layer_in, verdict_in};
+ghost use Rattle.walk.specs.Selectors.{layer_in};
+ghost use Rattle.walk.specs.Walking.{given, names, layers, verdicts};
 
 use base::refusal::{Refusal, TABLE_BROKEN, TAG_NUMBER};
 use base::word_at;
@@ -15,7 +15,7 @@ use maps::Layers;
 use matching::matches;
 use rows::Properties;
 use table::Tables;
-use valid::{Counts, are_sound};
+use valid::{Counts, judge};
 
 mod layers;
 pub mod maps;
@@ -33,24 +33,15 @@ pub fn property_maps(
     ensures maps_after { (result, maps.new) ≡ maps_of tables.now.bundle.now tables.now.rules.now tables.now.selectors.now tables.now.tests.now tables.now.properties.now tables.now.numbers.now n zoom entity.now }
     ensures few { few result }
 {
-    if !are_sound(tables, n) {
-        maps.fill(0);
-        return Err(Refusal::plain(TABLE_BROKEN));
-    }
-    match single_entity(entity) {
-        Err(r) => {
-            maps.fill(0);
-            Err(r)
-        }
-        Ok(range) => {
-            let entity = Entity {
-                bytes: entity,
-                range,
-            };
-            let m = walk_entity(tables, n.rules, zoom, entity, ALONE, maps)?;
-            Ok(m.n)
-        }
-    }
+    maps.fill(0);
+    judge(tables, n)?;
+    let range = single_entity(entity)?;
+    let entity = Entity {
+        bytes: entity,
+        range,
+    };
+    let m = walk_cleared(tables, n.rules, zoom, entity, ALONE, maps)?;
+    Ok(m.n)
 }
 
 // The walk alone, for callers that have judged the tables and the entity, which has this place in its stream.
@@ -65,77 +56,86 @@ pub fn walk_entity(
     ensures { (result, maps.new) ≡ walk_of tables.now.bundle.now tables.now.rules.now tables.now.selectors.now tables.now.tests.now tables.now.properties.now tables.now.numbers.now total zoom entity.entry.bytes.now entity.entry.range place.multipolygons place.place }
 {
     maps.fill(0);
+    walk_cleared(tables, total, zoom, entity, place, maps)
+}
+
+// The same over a table of zeros.
+fn walk_cleared(
+    tables: &Tables,
+    total: usize,
+    zoom: u8,
+    entity: Entity,
+    place: StreamPlace,
+    maps: &mut [u32; 4323],
+) -> Result<Layers, Refusal>
+    requires { maps.old ≡ no_rows }
+    ensures { (result, maps.new) ≡ walk_of tables.now.bundle.now tables.now.rules.now tables.now.selectors.now tables.now.tests.now tables.now.properties.now tables.now.numbers.now total zoom entity.entry.bytes.now entity.entry.range place.multipolygons place.place }
+{
     if 16384 < total {
         return Err(Refusal::plain(TABLE_BROKEN));
     }
-    let walk = Walk {
+    let mut walk = Walk {
         tables,
         zoom,
         entity,
+        rows: maps,
+        count: Layers { n: 0 },
     };
-    let q = walk.rules(total, maps);
-    finish_maps(q, place, maps)
+    match walk.rules(total) {
+        Ok(()) => Ok(walk.made()),
+        Err(k) => {
+            walk.rows.fill(0);
+            Err(place.refuse(k))
+        }
+    }
 }
 
 // The place of the layer of this name among the first n of a table of maps.
-pub fn layer_place(
-    bundle: &[u8],
-    selectors: &[u32],
-    maps: &[u32],
-    n: usize,
-    name: &[u8],
-) -> Option<usize>
-    ensures { result ≡ below n (layer_place (layer_in bundle.now selectors.now) maps.now n name.now) }
+pub fn layer_place(tables: &Tables, maps: &[u32], n: usize, name: &[u8]) -> Option<usize>
+    ensures { result ≡ below n (layer_place (layer_in tables.now.bundle.now tables.now.selectors.now) maps.now n name.now) }
 {
     if 32 < n {
         return None;
     }
-    let i = layers::find_named(bundle, selectors, maps, Layers { n }, name)?;
+    let i = layers::find_named(tables, maps, Layers { n }, name)?;
     Some(i.n)
 }
 
-// What the end of a walk answers: a refusal leaves a table of zeros.
-fn finish_maps(
-    q: Result<Layers, usize>,
-    place: StreamPlace,
-    t: &mut [u32; 4323],
-) -> Result<Layers, Refusal>
-    ensures { (result, t.new) ≡ finish place.multipolygons place.place (told q t.old) }
-{
-    match q {
-        Err(k) => {
-            t.fill(0);
-            Err(place.refuse(k))
-        }
-        Ok(m) => Ok(m),
-    }
-}
-
-// A walk of an entity through tables, at a zoom.
-#[derive(Clone, Copy)]
+// A walk of an entity through tables, at a zoom: the maps that it has made so far, and how many layers they have.
+#[derive(Drop)]
 struct Walk<'a> {
     tables: &'a Tables<'a>,
     zoom: u8,
     entity: Entity<'a>,
+    rows: &'a mut [u32; 4323],
+    count: Layers,
 }
 
 impl Walk<'_> {
-    // The first `total` rules, in order.
-    fn rules(&self, total: usize, t: &mut [u32; 4323]) -> Result<Layers, usize>
-        requires { total ≤ 16384 }
-        ensures { told result t.new ≡ rules_of (name_at self.now.tables.now.bundle.now self.now.tables.now.properties.now) (layer_in self.now.tables.now.bundle.now self.now.tables.now.selectors.now) (verdict_in self.now.tables.now.bundle.now self.now.tables.now.selectors.now self.now.tables.now.tests.now self.now.tables.now.numbers.now self.now.zoom self.now.entity.bytes.now self.now.entity.range) self.now.tables.now.rules.now t.old 0 0 total }
+    // How many layers it has made.
+    fn made(&self) -> Layers
+        ensures { result ≡ self.now.count }
     {
-        let mut m = Layers { n: 0 };
+        self.count
+    }
+
+    // The first `total` rules, in order.
+    fn rules(&mut self, total: usize) -> Result<(), usize>
+        requires { total ≤ 16384 }
+        ensures rules { told result self.new.count self.new.rows.now ≡ rules_of (names self.old) (layers self.old) (verdicts self.old) self.old.tables.now.rules.now self.old.rows.now self.old.count 0 total }
+        ensures same_reference { self.new.rows.ghost_name ≡ self.old.rows.ghost_name }
+    {
         for r in 0..total {
-            m = self.rule(t, m, r)?;
+            self.rule(r)?;
         }
-        Ok(m)
+        Ok(())
     }
 
     // One rule: its selectors in order.
-    fn rule(&self, t: &mut [u32; 4323], n: Layers, r: usize) -> Result<Layers, usize>
+    fn rule(&mut self, r: usize) -> Result<(), usize>
         requires { r < 16384 }
-        ensures { told result t.new ≡ rule_of (name_at self.now.tables.now.bundle.now self.now.tables.now.properties.now) (layer_in self.now.tables.now.bundle.now self.now.tables.now.selectors.now) (verdict_in self.now.tables.now.bundle.now self.now.tables.now.selectors.now self.now.tables.now.tests.now self.now.tables.now.numbers.now self.now.zoom self.now.entity.bytes.now self.now.entity.range) self.now.tables.now.rules.now t.old n r }
+        ensures rule { told result self.new.count self.new.rows.now ≡ rule_of (names self.old) (layers self.old) (verdicts self.old) self.old.tables.now.rules.now self.old.rows.now self.old.count r }
+        ensures same { given self.new ≡ given self.old }
     {
         let rules = self.tables.rules;
         let at = r * 8;
@@ -143,23 +143,23 @@ impl Walk<'_> {
         let end = word_at(rules, at + 2);
         let from = word_at(rules, at + 3);
         let to = word_at(rules, at + 4);
-        let mut m = n;
         for s in start..end {
-            m = self.visit(t, m, s, Properties { from, to })?;
+            self.visit(s, Properties { from, to })?;
         }
-        Ok(m)
+        Ok(())
     }
 
     // One selector, with the properties of its rule.
-    fn visit(&self, t: &mut [u32; 4323], n: Layers, s: u32, ps: Properties) -> Result<Layers, usize>
-        ensures { told result t.new ≡ hit_of (name_at self.now.tables.now.bundle.now self.now.tables.now.properties.now) (layer_in self.now.tables.now.bundle.now self.now.tables.now.selectors.now) (verdict_in self.now.tables.now.bundle.now self.now.tables.now.selectors.now self.now.tables.now.tests.now self.now.tables.now.numbers.now self.now.zoom self.now.entity.bytes.now self.now.entity.range) t.old n s (numbers_in ps) }
+    fn visit(&mut self, s: u32, ps: Properties) -> Result<(), usize>
+        ensures hit { told result self.new.count self.new.rows.now ≡ hit_of (names self.old) (layers self.old) (verdicts self.old) self.old.rows.now self.old.count s (numbers_in ps) }
+        ensures same { given self.new ≡ given self.old }
     {
         let Ok(fits) = matches(self.tables, self.zoom, self.entity, s as usize) else {
             return Err(TAG_NUMBER);
         };
         if !fits {
-            return Ok(n);
+            return Ok(());
         }
-        layers::step(self.tables, t, n, s, ps)
+        self.step(s, ps)
     }
 }

@@ -42,8 +42,5 @@ pub fn row_of(maps: &[u32; 4323], i: usize) -> &[u32]
     }
     let a = i * ROW + 2;
     let count = t[i * ROW + 1] as usize;
-    if t.len() - a < count {
-        return &t[a..];
-    }
-    &t[a..a + count]
+    &t[a..(a + count).min(t.len())]
 }

@@ -20,8 +20,8 @@ fn assign_property(tables: &Tables, row: &mut [u32], count: usize, p: u32) -> us
     ensures used { result ≡ length (assign (name_at tables.now.bundle.now tables.now.properties.now) (take count row.old) p) }
     ensures assigned { row.new ≡ assign (name_at tables.now.bundle.now tables.now.properties.now) (take count row.old) p ++ drop result row.old }
 {
-    let name = name_of(tables.bundle, tables.properties, p);
-    let at = find_name(tables.bundle, tables.properties, &row[..count], name).unwrap_or(count);
+    let name = name_of(tables, p);
+    let at = find_name(tables, &row[..count], name).unwrap_or(count);
     row[at] = p;
     if at < count { count } else { count + 1 }
 }

@@ -5,4 +5,4 @@ use Rattle.canvas.specs.Canvas.{any_canvas}
 use Rattle.canvas.proofs.any_canvas.Given as goal
 
 abbrev pub invariant-loop-s : goal.invariant-loop-s
-invariant-loop-s l = any_canvas l.selectors (places l.s (l.to - l.s)) ≡ any_canvas l.selectors (places l.from (l.to - l.from))
+invariant-loop-s l = any_canvas l.selectors (places l.s (l.fn.range.to - l.s)) ≡ any_canvas l.selectors (places l.fn.range.from (l.fn.range.to - l.fn.range.from))

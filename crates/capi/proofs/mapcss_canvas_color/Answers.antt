@@ -3,14 +3,13 @@ use Rattle.capi.proofs.AnswerLaws.{told_five}
 use Rattle.answers.specs.Answers.{told_canvas}
 use Rattle.canvas.specs.Canvas.{canvas_of}
 use Rattle.settings.specs.Settings.{counts_at}
-use borrow.Author.Rules.{rules}
 use Rattle.capi.proofs.mapcss_canvas_color.Goals as goal
 
 pub returns : goal.returns
 returns c = let a =
     c.args in
     told_five
-    (c.told_canvas-five.ensures
+    (c.told_canvas.ensures
     ∙ ap told_canvas
     (c.canvas_fill_color.ensures
     ∙ ap
@@ -24,4 +23,4 @@ returns c = let a =
     canvas_of a.bundle.now a.rules.now a.selectors.now a.tests.now a.properties.now
     a.numbers.now (counts_at a.counts.now) t)
     c.type_of.ensures))
-    c.store_words.ensures
+    c.tell.ensures.kind c.tell.ensures.stored_words

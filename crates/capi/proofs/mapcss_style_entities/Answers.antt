@@ -3,7 +3,6 @@ use lib.ListN.{length}
 use Rattle.capi.proofs.AnswerLaws.{list_told}
 use Rattle.drawing.specs.Lists.{nodes_of}
 use Rattle.settings.specs.Settings.{counts_at}
-use borrow.Author.Rules.{rules}
 use Rattle.capi.proofs.mapcss_style_entities.Goals as goal
 
 pub returns : goal.returns
@@ -24,5 +23,5 @@ returns c = let a =
     a.numbers.now (counts_at a.counts.now) a.zoom s (length a.list.now)
     a.nodes.now)
     c.settings_of.ensures)
-    c.told_count-five.ensures
-    c.store_words.ensures
+    c.told_count.ensures
+    c.tell.ensures.kind c.tell.ensures.stored_words

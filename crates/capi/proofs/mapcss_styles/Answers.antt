@@ -2,7 +2,6 @@ use mathlib.Core.Path.{ap, ◌∙◌}
 use Rattle.capi.proofs.AnswerLaws.{styles_told}
 use Rattle.styles.specs.Styles.{styles_of}
 use Rattle.settings.specs.Settings.{counts_at}
-use borrow.Author.Rules.{rules}
 use Rattle.capi.proofs.mapcss_styles.Goals as goal
 
 pub returns : goal.returns
@@ -26,5 +25,5 @@ returns c = let a = c.args in
     t.words_after
     t.floats_after
     t.layers_after
-    c.told_styles-five.ensures
-    c.store_words.ensures
+    c.told_styles.ensures
+    c.tell.ensures.kind c.tell.ensures.stored_words

@@ -7,11 +7,12 @@ use lib.Seq.{length-take-le}
 use Rattle.std.specs.Prelude.{ℕ, [], Result}
 use Rattle.base.specs.declared.refusal.Refusal.{Refusal}
 use Rattle.base.proofs.Options.{handed_on}
+use Rattle.valid.proofs.Judged.{judged_err, judged_ok}
 use Rattle.order.specs.Keys.{zero_key}
 use Rattle.drawing.specs.Gather.{IsBounded, gathered}
 use Rattle.drawing.proofs.GatherLaws.{told_stopped, told_now}
 use Rattle.drawing.proofs.GatherLaws as gather
-use Rattle.drawing.proofs.DrawLaws.{zeros, part_length, judged_err, judged_ok, gathered_by, areas_broken, ways_refused, areas_refused, areas_listed}
+use Rattle.drawing.proofs.DrawLaws.{zeros, part_length, gathered_by, areas_broken, ways_refused, areas_refused, areas_listed}
 use Rattle.drawing.proofs.StreamLaws.{behind_refused, behind_keys, gather_behind, taken_behind}
 use Rattle.drawing.proofs.style_areas.Goals as goal
 

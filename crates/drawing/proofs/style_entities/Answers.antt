@@ -5,10 +5,11 @@ use lib.Seq.{length-take-le}
 use Rattle.std.specs.Prelude.{ℕ, [], Result}
 use Rattle.base.specs.declared.refusal.Refusal.{Refusal}
 use Rattle.base.proofs.Options.{handed_on}
+use Rattle.valid.proofs.Judged.{judged_err, judged_ok}
 use Rattle.order.specs.Keys.{zero_key}
 use Rattle.drawing.specs.Gather.{IsBounded}
 use Rattle.drawing.proofs.GatherLaws.{told_stopped, told_now}
-use Rattle.drawing.proofs.DrawLaws.{zeros, part_length, judged_err, judged_ok, gathered_by, nodes_broken, nodes_refused, nodes_listed}
+use Rattle.drawing.proofs.DrawLaws.{zeros, part_length, gathered_by, nodes_broken, nodes_refused, nodes_listed}
 use Rattle.drawing.proofs.style_entities.Goals as goal
 
 pub returns-in_err-drawing : goal.returns-in_err-drawing

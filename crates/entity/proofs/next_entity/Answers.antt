@@ -1,4 +1,5 @@
-use mathlib.Core.Path.{refl, ap}
+use mathlib.Core.Path.{refl, ap, ◌∙◌}
+use Rattle.group.specs.Pair.{all_utf8, entries_left}
 use borrow.Author.Tests.{le-leb, lt-leb, lt-ltb, le-ltb}
 use Rattle.base.specs.Choice.{via, if_true, if_false}
 use Rattle.entity.specs.Layout.{next_of, tags_of}
@@ -14,9 +15,9 @@ pub returns-then-s-at : goal.returns-then-s-at
 unfolding next_of tags_of
 returns-then-s-at c = if_false _ _ _ (le-ltb _ _ c.if-s-gt1048576.false) (if_true _ _ _ (le-leb _ _ c.if-s-at.true) refl)
 
-pub returns-then-pairs_utf8 : goal.returns-then-pairs_utf8
+pub returns-then-are_utf8 : goal.returns-then-are_utf8
 unfolding next_of tags_of
-returns-then-pairs_utf8 c = if_false _ _ _ (le-ltb _ _ c.if-s-gt1048576.false) (if_false _ _ _ (lt-leb _ _ c.if-s-at.false) (option_some _ _ _ (via c.entity_at.ensures c.in-Some.is) (if_true _ _ _ (via c.pairs_utf8.ensures c.if-pairs_utf8.true) refl)))
+returns-then-are_utf8 c = if_false _ _ _ (le-ltb _ _ c.if-s-gt1048576.false) (if_false _ _ _ (lt-leb _ _ c.if-s-at.false) (option_some _ _ _ (via c.entity_at.ensures c.in-Some.is) (if_true _ _ _ (via (c.are_utf8.ensures ∙ ap (λ t. all_utf8 (entries_left t)) c.tags.ensures) c.if-are_utf8.true) refl)))
 
 pub returns-in_default : goal.returns-in_default
 unfolding next_of tags_of
@@ -24,4 +25,4 @@ returns-in_default c = if_false _ _ _ (le-ltb _ _ c.if-s-gt1048576.false) (if_fa
 
 pub returns : goal.returns
 unfolding next_of tags_of
-returns c = if_false _ _ _ (le-ltb _ _ c.if-s-gt1048576.false) (if_false _ _ _ (lt-leb _ _ c.if-s-at.false) (option_some _ _ _ (via c.entity_at.ensures c.in-Some.is) (if_false _ _ _ (via c.pairs_utf8.ensures c.if-pairs_utf8.false) (ap Err c.refuse-2.ensures))))
+returns c = if_false _ _ _ (le-ltb _ _ c.if-s-gt1048576.false) (if_false _ _ _ (lt-leb _ _ c.if-s-at.false) (option_some _ _ _ (via c.entity_at.ensures c.in-Some.is) (if_false _ _ _ (via (c.are_utf8.ensures ∙ ap (λ t. all_utf8 (entries_left t)) c.tags.ensures) c.if-are_utf8.false) (ap Err c.refuse-2.ensures))))

@@ -1,4 +1,5 @@
-use mathlib.Core.Path.{refl, ap}
+use mathlib.Core.Path.{refl, ap, ◌∙◌}
+use Rattle.group.specs.Pair.{all_utf8, entries_left}
 use borrow.Author.Tests.{eq-eqb, ne_eqb}
 use Rattle.base.specs.Choice.{via, if_true, if_false}
 use Rattle.entity.specs.Layout.{single_of, tags_of}
@@ -10,9 +11,9 @@ pub returns-then-e-s : goal.returns-then-e-s
 unfolding single_of tags_of
 returns-then-e-s c = option_some _ _ _ (via c.entity_at.ensures c.in-Some.is) (if_false _ _ _ (ne_eqb _ _ c.if-e-s.true) (ap Err c.refuse-then-e-s.ensures))
 
-pub returns-then-pairs_utf8 : goal.returns-then-pairs_utf8
+pub returns-then-are_utf8 : goal.returns-then-are_utf8
 unfolding single_of tags_of
-returns-then-pairs_utf8 c = option_some _ _ _ (via c.entity_at.ensures c.in-Some.is) (if_true _ _ _ (eq-eqb _ _ c.if-e-s.false) (if_true _ _ _ (via c.pairs_utf8.ensures c.if-pairs_utf8.true) refl))
+returns-then-are_utf8 c = option_some _ _ _ (via c.entity_at.ensures c.in-Some.is) (if_true _ _ _ (eq-eqb _ _ c.if-e-s.false) (if_true _ _ _ (via (c.are_utf8.ensures ∙ ap (λ t. all_utf8 (entries_left t)) c.tags.ensures) c.if-are_utf8.true) refl))
 
 pub returns-in_default : goal.returns-in_default
 unfolding single_of tags_of
@@ -20,4 +21,4 @@ returns-in_default c = option_none _ _ _ (via c.entity_at.ensures c.in_default.i
 
 pub returns : goal.returns
 unfolding single_of tags_of
-returns c = option_some _ _ _ (via c.entity_at.ensures c.in-Some.is) (if_true _ _ _ (eq-eqb _ _ c.if-e-s.false) (if_false _ _ _ (via c.pairs_utf8.ensures c.if-pairs_utf8.false) (ap Err c.refuse-2.ensures)))
+returns c = option_some _ _ _ (via c.entity_at.ensures c.in-Some.is) (if_true _ _ _ (eq-eqb _ _ c.if-e-s.false) (if_false _ _ _ (via (c.are_utf8.ensures ∙ ap (λ t. all_utf8 (entries_left t)) c.tags.ensures) c.if-are_utf8.false) (ap Err c.refuse-2.ensures)))

@@ -5,21 +5,20 @@ use Rattle.base.specs.Choice.{via}
 use Rattle.group.proofs.Numbers.{number_end, number_single, number_small, number_stop, number_more, number_most}
 use Rattle.group.proofs.+number_at.Goals as goal
 
-pub returns-then-s-at : goal.returns-then-s-at
-returns-then-s-at t c = number_end c.args.s.now c.args.at c.args.most
-    c.if-s-at.true
+pub returns-in_err-b : goal.returns-in_err-b
+returns-in_err-b t c = c.from_residual.ensures ∙ number_end c.args.s.now c.args.at c.args.most c.in_err-b.ensures.lookup.0
 
 pub returns-then-b-lt128 : goal.returns-then-b-lt128
 returns-then-b-lt128 t c = c.last_byte.ensures
     ∙ number_single c.args.s.now
     c.args.at
-    c.args.most c.if-s-at.false
+    c.args.most c.in_ok-b.ensures.lookup.0 _ c.in_ok-b.ensures.lookup.1
     c.if-b-lt128.true
 
 pub returns-then-most-lt128 : goal.returns-then-most-lt128
 returns-then-most-lt128 t c = number_small c.args.s.now
     c.args.at
-    c.args.most c.if-s-at.false
+    c.args.most c.in_ok-b.ensures.lookup.0 _ c.in_ok-b.ensures.lookup.1
     c.if-b-lt128.false c.if-most-lt128.true
 
 pub number_at-requires : goal.number_at-requires
@@ -33,11 +32,11 @@ first_byte-requires t c = number_most
     (via c.number_at.ensures c.in_ok-v.was)
 
 pub returns-in_err-v : goal.returns-in_err-v
-returns-in_err-v t c = c.from_residual.ensures ∙ number_stop
+returns-in_err-v t c = c.from_residual-in_err-v.ensures ∙ number_stop
     c.args.s.now
     c.args.at
     c.args.most
-    c.if-s-at.false
+    c.in_ok-b.ensures.lookup.0 _ c.in_ok-b.ensures.lookup.1
     c.if-b-lt128.false c.number_at.result
     c.number_at.ensures c.in_err-v.was
 
@@ -47,7 +46,7 @@ returns t c = c.first_byte.ensures
     c.args.s.now
     c.args.at
     c.args.most
-    c.if-s-at.false
+    c.in_ok-b.ensures.lookup.0 _ c.in_ok-b.ensures.lookup.1
     c.if-b-lt128.false
     c.number_at.result _ _
     c.number_at.ensures c.in_ok-v.was

@@ -1,17 +1,13 @@
-use mathlib.Core.Path.{refl}
-use borrow.Author.Tests.{le-leb, lt-leb}
-use Rattle.base.specs.Choice.{if_false, if_true}
-use Rattle.group.specs.Pair.{sized_of}
+use native.Mathlib.Omega.{arith}
+use mathlib.Core.Path.{◌∙◌}
+use Rattle.group.proofs.Runs.{sized_here, sized_past}
 use Rattle.group.proofs.sized.Goals as goal
 
-pub returns-then-n-s : goal.returns-then-n-s
-unfolding sized_of
-returns-then-n-s c = if_true _ _ _ (le-leb _ _ c.if-from-s.true) (if_true _ _ _ (le-leb _ _ c.if-n-s.true) refl)
+pub returns-in_err-to : goal.returns-in_err-to
+returns-in_err-to c = c.from_residual.ensures ∙ sized_past _ _ _ (omega arith)
 
-pub returns-else-n-s : goal.returns-else-n-s
-unfolding sized_of
-returns-else-n-s c = if_true _ _ _ (le-leb _ _ c.if-from-s.true) (if_false _ _ _ (lt-leb _ _ c.if-n-s.false) refl)
+pub returns-then-to-s : goal.returns-then-to-s
+returns-then-to-s c = rw c.in_ok-to.ensures.1 (sized_here _ _ _ (omega arith))
 
-pub returns-else-from-s : goal.returns-else-from-s
-unfolding sized_of
-returns-else-from-s c = if_false _ _ _ (lt-leb _ _ c.if-from-s.false) refl
+pub returns : goal.returns
+returns c = sized_past _ _ _ (omega arith)

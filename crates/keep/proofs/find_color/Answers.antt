@@ -4,7 +4,6 @@ use Rattle.base.specs.Choice.{via}
 use native.Mathlib.Nat.{sub-zero}
 use native.Mathlib.Omega.{arith}
 use mathlib.Core.Path.{ap, ◌∙◌}
-use Prim.Native.Nat.{◌-◌}
 use Rattle.keep.proofs.find_color.Goals as goal
 
 pub loop-i-init : goal.loop-i-init

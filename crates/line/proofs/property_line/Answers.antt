@@ -11,7 +11,7 @@ pub returns : goal.returns
 returns c =
     let a = c.args in
     ap (λ o. (c.put_byte.new.self.n, o)) (search rules)
-    ∙ property_done a.out.now a.bundle.now a.properties.now (get_or a.maps.now (a.i * 131 + 2 + a.j) 0) _ _
+    ∙ property_done a.out.now a.tables.now.bundle.now a.tables.now.properties.now (get_or a.maps.now (a.i * 131 + 2 + a.j) 0) _ _
     c.property_number-p.ensures
     c.name_of.ensures
     c.put_bytes.ensures.put

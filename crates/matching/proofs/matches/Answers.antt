@@ -6,6 +6,7 @@ use Rattle.decode.specs.Decode.{test_at, places_in, selector_in}
 use Rattle.matching.specs.Matching.{fit_of, type_of}
 use Rattle.table.specs.Kind.{object_kind}
 use Rattle.matching.proofs.Selectors.{beyond, other_type, right_type, type_is}
+use Rattle.matching.proofs.matches.Goals.{else-fits_zoom-via-then-fits_zoom+else-fits_type, else-fits_zoom-via-else-fits_zoom}
 use Rattle.matching.proofs.matches.Goals as goal
 
 pub returns-then-fits_type : goal.returns-then-fits_type
@@ -40,32 +41,28 @@ returns-then-fits_type c = right_type
     c.args.tables.now.tests.now
     c.args.tables.now.numbers.now) (places_in r)))) c.range_of.ensures)
 
-pub returns-then-fits_zoom : goal.returns-then-fits_zoom
-unfolding value_of
-returns-then-fits_zoom c = other_type
-    c.args.zoom
-    (value_of
-    c.args.entity.bytes.now
-    c.args.entity.range)
-    (selector_in
-    c.args.tables.now.bundle.now
-    c.args.tables.now.selectors.now
-    c.args.tables.now.tests.now
-    c.args.tables.now.numbers.now
-    c.args.i) _
-    c.fits_zoom.ensures c.if-fits_zoom.true _
-    (c.fits_type.ensures ∙ ap (λ o. fits_type o c.args.entity.range.kind) (ap type_of (c.of-kind.ensures ∙ ap object_kind c.word_of.ensures) ∙ sym (type_is _))) c.if-fits_type.false
-
 pub returns : goal.returns
-returns c = beyond
-    c.args.zoom
-    (value_of
-    c.args.entity.bytes.now
-    c.args.entity.range)
-    (selector_in
-    c.args.tables.now.bundle.now
-    c.args.tables.now.selectors.now
-    c.args.tables.now.tests.now
-    c.args.tables.now.numbers.now
-    c.args.i) _ c.fits_zoom.ensures
-    c.if-fits_zoom.false
+unfolding value_of
+returns c = elim c.else-fits_zoom.branch [
+  | else-fits_zoom-via-then-fits_zoom+else-fits_type w ↦ other_type
+      c.args.zoom
+      (value_of c.args.entity.bytes.now c.args.entity.range)
+      (selector_in
+      c.args.tables.now.bundle.now
+      c.args.tables.now.selectors.now
+      c.args.tables.now.tests.now
+      c.args.tables.now.numbers.now
+      c.args.i) _
+      c.fits_zoom.ensures w.if-fits_zoom.true _
+      (w.fits_type.ensures ∙ ap (λ o. fits_type o c.args.entity.range.kind) (ap type_of (c.of-kind.ensures ∙ ap object_kind c.word_of.ensures) ∙ sym (type_is _))) w.if-fits_type.false
+  | else-fits_zoom-via-else-fits_zoom w ↦ beyond
+      c.args.zoom
+      (value_of c.args.entity.bytes.now c.args.entity.range)
+      (selector_in
+      c.args.tables.now.bundle.now
+      c.args.tables.now.selectors.now
+      c.args.tables.now.tests.now
+      c.args.tables.now.numbers.now
+      c.args.i) _
+      c.fits_zoom.ensures w.if-fits_zoom.false
+]

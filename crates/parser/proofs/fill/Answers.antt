@@ -1,5 +1,5 @@
-use Rattle.keep.specs.Lent.{lent_in}
 use Rattle.keep.specs.Encode.{lengths_by}
+use Rattle.keep.specs.Lent.{lent_in}
 use Rattle.keep.proofs.Lending.{lengths_stay}
 use Rattle.parser.specs.Load.{held_by}
 use Rattle.parser.specs.declared.Counts.{Counts}
@@ -11,12 +11,12 @@ use Rattle.parser.proofs.fill.Goals as goal
 pub returns-in-Err : goal.returns-in-Err
 returns-in-Err c = record {
   loaded = again_zero (lengths_by c.args.store.now) (lengths_by c.read_bundle.new.store) c.blank-in-Err.ensures.zero (lengths_stay c.read_bundle.new.store c.args.store.now (c.read_bundle.ensures.lends ∙ c.blank.ensures.lends))
-      (load_stopped c.args.bundle.now (lengths_by c.args.store.now) _ _ _ _ _ _ c.blank.ensures.zero (λ m. lent_in m c.read_bundle.new.store) c.in-Err.e c.read_bundle.ensures.read c.in-Err.is);
+      (load_stopped c.args.bundle.now (lengths_by c.args.store.now) (lent_in c.blank.new.store) (lent_in c.read_bundle.new.store) c.blank.ensures.zero c.blank.ensures.tally c.read_bundle.ensures.read c.in-Err.e c.in-Err.is);
   lends = c.blank-in-Err.ensures.lends ∙ c.read_bundle.ensures.lends ∙ c.blank.ensures.lends;
 }
 
 pub returns-in-Ok : goal.returns-in-Ok
 returns-in-Ok c = record {
-  loaded = ap (λ (k : Counts). (Ok k, held_by c.read_bundle.new.store)) c.from.ensures ∙ load_ended c.args.bundle.now (lengths_by c.args.store.now) _ _ _ _ _ _ c.blank.ensures.zero _ _ _ _ _ _ _ c.read_bundle.ensures.read c.in-Ok.is;
+  loaded = ap (λ (k : Counts). (Ok k, held_by c.read_bundle.new.store)) c.from.ensures ∙ load_ended c.args.bundle.now (lengths_by c.args.store.now) (lent_in c.blank.new.store) (lent_in c.read_bundle.new.store) c.blank.ensures.zero c.blank.ensures.tally c.read_bundle.ensures.read c.in-Ok.is;
   lends = c.read_bundle.ensures.lends ∙ c.blank.ensures.lends;
 }

@@ -1,3 +1,5 @@
+use Rattle.std.proofs.Common.{◌∙◌}
+use Rattle.input.proofs.TokenLaws.{semicolon_expected}
 use mathlib.Core.Path.{refl}
 use native.Mathlib.Omega.{arith}
 use Rattle.base.specs.Choice.{via}
@@ -7,7 +9,7 @@ use Rattle.properties.proofs.end_value.Goals as goal
 use Rattle.base.proofs.Options.{handed_on}
 
 pub returns-in_err-d : goal.returns-in_err-d
-returns-in_err-d c = rw (handed_on _ c.from_residual.ensures) (λ v e τ. another (Values _ _ _ _ _) _ _ _ _ _ _ (via c.expect_semicolon.ensures c.in_err-d.was) (bad_value refl))
+returns-in_err-d c = rw (handed_on _ c.from_residual.ensures) (λ τ v e. another (Values _ _ _ _ _) _ _ _ _ _ _ (via (c.expect.ensures ∙ semicolon_expected _ _ _) c.in_err-d.was) (bad_value refl))
 
 pub returns : goal.returns
-returns c = λ v e τ. beyond (Values _ _ _ _ _) _ _ _ _ _ _ (via c.expect_semicolon.ensures c.in_ok-d.was) (λ m1. good_value v _ (omega arith) e)
+returns c = λ τ v e. beyond (Values _ _ _ _ _) _ _ _ _ _ _ (via (c.expect.ensures ∙ semicolon_expected _ _ _) c.in_ok-d.was) (λ m1. good_value v _ (omega arith) e)

@@ -11,4 +11,4 @@ pub returns-in_err-b : goal.returns-in_err-b
 returns-in_err-b c = rw (handed_on _ c.from_residual.ensures) (λ τ. no_word (Values _ _ _ _ _) _ _ _ _ _ (via c.read_identifier.ensures c.in_err-b.was) (bad_value refl))
 
 pub returns : goal.returns
-returns c = λ τ. a_word (Values _ _ _ _ _) _ _ _ _ _ (via c.read_identifier.ensures c.in_ok-b.was) (λ m1. widen_value (omega arith) (c.end_value.ensures _ refl τ))
+returns c = λ τ. a_word (Values _ _ _ _ _) _ _ _ _ _ (via c.read_identifier.ensures c.in_ok-b.was) (λ m1. widen_value (omega arith) (c.end_value.ensures τ _ refl))

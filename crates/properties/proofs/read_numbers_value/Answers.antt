@@ -6,7 +6,7 @@ use Rattle.properties.proofs.read_numbers_value.Goals as goal
 use Rattle.base.proofs.Options.{handed_on}
 
 pub returns-in_err-d : goal.returns-in_err-d
-returns-in_err-d c = rw (handed_on _ c.from_residual.ensures) (λ τ k h. after_refused (Values _ _ _ _ _) _ (c.read_number_list.ensures τ k h) c.in_err-d.was (λ e τ p. bad_value p))
+returns-in_err-d c = rw (handed_on _ c.from_residual.ensures) (record { read = λ k h. after_refused (Values _ _ _ _ _) _ (c.read_number_list.ensures.read k h) c.in_err-d.was (λ e τ p. bad_value p); beside = c.read_number_list.ensures.beside })
 
 pub returns : goal.returns
-returns c = λ τ k h. after_done (Values _ _ _ _ _) _ (c.read_number_list.ensures τ k h) c.in_ok-d.was (λ x l. good_value _ _ (omega arith) refl)
+returns c = record { read = λ k h. after_done (Values _ _ _ _ _) _ (c.read_number_list.ensures.read k h) c.in_ok-d.was (λ x l. good_value _ _ (omega arith) refl); beside = c.read_number_list.ensures.beside }

@@ -11,13 +11,13 @@ pub returns-in_err-b : goal.returns-in_err-b
 returns-in_err-b c =
     c.from_residual.ensures
     ∙ ap (option_map (λ p. p.1)) (sym c.in_err-b.was)
-    ∙ value_read c.args.s.now (c.args.first.now ++ (58 ∷ c.args.second.now)) _ c.find.result
-    (find_from_yields_List (λ p. same (c.args.first.now ++ (58 ∷ c.args.second.now)) (within p.0 c.args.s.now)) c.find.new.self _ _ c.find.ensures.ran
-    (YieldsList-from_first (λ x. x) pairs_left _ c.new.ensures) (λ x b q k. search (rules, tests)))
+    ∙ value_read c.args.entity.bytes.now (c.args.first.now ++ (58 ∷ c.args.second.now)) _ c.find.result
+    (find_from_yields_List (λ p. same (c.args.first.now ++ (58 ∷ c.args.second.now)) (within p.0 c.args.entity.bytes.now)) c.find.new.self _ _ c.find.ensures.ran
+    (YieldsList-from_first (λ x. x) pairs_left _ (ap pairs_left c.tags-tags.ensures)) (λ x b q k. search (rules, tests)))
 
 pub returns : goal.returns
 returns c =
     ap (option_map (λ p. p.1)) (sym c.in_ok-b.was)
-    ∙ value_read c.args.s.now (c.args.first.now ++ (58 ∷ c.args.second.now)) _ c.find.result
-    (find_from_yields_List (λ p. same (c.args.first.now ++ (58 ∷ c.args.second.now)) (within p.0 c.args.s.now)) c.find.new.self _ _ c.find.ensures.ran
-    (YieldsList-from_first (λ x. x) pairs_left _ c.new.ensures) (λ x b q k. search (rules, tests)))
+    ∙ value_read c.args.entity.bytes.now (c.args.first.now ++ (58 ∷ c.args.second.now)) _ c.find.result
+    (find_from_yields_List (λ p. same (c.args.first.now ++ (58 ∷ c.args.second.now)) (within p.0 c.args.entity.bytes.now)) c.find.new.self _ _ c.find.ensures.ran
+    (YieldsList-from_first (λ x. x) pairs_left _ (ap pairs_left c.tags-tags.ensures)) (λ x b q k. search (rules, tests)))

@@ -6,8 +6,8 @@ use Rattle.rules.specs.Rules.{Selects, no_selector, one_selector}
 use Rattle.rules.proofs.RuleLaws.{no_room_selector, room_selector}
 use Rattle.rules.proofs.store_selector.Goals as goal
 
-pub returns-in_err-m : goal.returns-in_err-m
-returns-in_err-m c = rw (handed_on _ c.from_residual.ensures) (λ bundle τ σ h. no_room_selector (Selects _ _ _ _ _) _ c.args.source _ _ _ _ _ c.args.c _ _ h (via_with (rw c.number.ensures at c.keep_selector.ensures) (or_none c.ok_or.ensures.ok_part c.in_err-m.was)) (no_selector (or_err _ c.ok_or.ensures.value c.in_err-m.was ∙ c.refuse_reached.ensures)))
+pub returns-in_err-ok_or : goal.returns-in_err-ok_or
+returns-in_err-ok_or c = rw (handed_on _ c.from_residual.ensures) (record { read = λ bundle σ h. no_room_selector (Selects _ _ _ _ _) _ c.args.source _ _ _ _ _ c.args.c _ _ h (via_with (rw c.number.ensures at c.keep_selector.ensures.kept) (or_none c.ok_or.ensures.ok_part c.in_err-ok_or.was)) (no_selector (or_err _ c.ok_or.ensures.value c.in_err-ok_or.was ∙ c.refuse_reached.ensures)); beside = c.keep_selector.ensures.beside })
 
 pub returns : goal.returns
-returns c = λ bundle τ σ h. room_selector (Selects _ _ _ _ _) _ c.args.source _ _ _ _ _ c.args.c _ _ h (via_with (rw c.number.ensures at c.keep_selector.ensures) (or_some c.ok_or.ensures.ok_part c.in_ok-m.was)) (one_selector _ _ (omega arith))
+returns c = record { read = λ bundle σ h. room_selector (Selects _ _ _ _ _) _ c.args.source _ _ _ _ _ c.args.c _ _ h (via_with (rw c.number.ensures at c.keep_selector.ensures.kept) (or_some c.ok_or.ensures.ok_part c.in_ok-ok_or.was)) (one_selector _ _ (omega arith)); beside = c.keep_selector.ensures.beside }

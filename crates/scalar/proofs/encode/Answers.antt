@@ -1,4 +1,5 @@
-use mathlib.Core.Path.{refl}
+use mathlib.Core.Path.{refl, ap}
+use Rattle.std.specs.Prelude.{Some}
 use Rattle.base.specs.Choice.{via, if_true, if_false}
 use Rattle.scalar.proofs.Scalars.{scalar_below}
 use Rattle.scalar.specs.Scalar.{encoding_of}
@@ -9,7 +10,7 @@ encode_scalar-requires c = scalar_below _ (via c.is_scalar.ensures c.if-is_scala
 
 pub returns-then-is_scalar : goal.returns-then-is_scalar
 unfolding encoding_of
-returns-then-is_scalar c = if_true _ _ _ (via c.is_scalar.ensures c.if-is_scalar.true) c.encode_scalar.ensures
+returns-then-is_scalar c = if_true _ _ _ (via c.is_scalar.ensures c.if-is_scalar.true) (ap Some c.encode_scalar.ensures)
 
 pub returns : goal.returns
 unfolding encoding_of

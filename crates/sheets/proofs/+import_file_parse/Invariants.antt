@@ -11,12 +11,12 @@ decreases-import_file l = 2 * l.depth
 abbrev pub decreases-parse : goal.decreases-parse
 decreases-parse l = 2 * l.depth + 1
 
-abbrev pub invariant-parse-loop-statement : goal.invariant-parse-loop-statement
-invariant-parse-loop-statement l =
+abbrev pub invariant-parse-loop-name : goal.invariant-parse-loop-name
+invariant-parse-loop-name l =
     Parsing l.text.bundle.now l.text.source l.depth
-    (lent_in l.initial.k l.initial.store) l.at
-    (lent_in l.k l.store)
+    (lent_in l.initial.store) l.at
+    (lent_in l.store)
     × (lends l.store ≡ lends l.initial.store)
 
-abbrev pub decreases-parse-loop-statement : goal.decreases-parse-loop-statement
-decreases-parse-loop-statement l = left l.text.bundle.now l.text.source l.at
+abbrev pub decreases-parse-loop-name : goal.decreases-parse-loop-name
+decreases-parse-loop-name l = left l.text.bundle.now l.text.source l.at

@@ -1,3 +1,5 @@
+use Rattle.std.proofs.Common.{◌∙◌}
+use Rattle.input.proofs.TokenLaws.{colon_expected, semicolon_expected}
 use mathlib.Core.Path.{refl}
 use native.Mathlib.Omega.{arith}
 use Rattle.base.specs.Choice.{via}
@@ -7,13 +9,13 @@ use Rattle.sheets.proofs.read_color_def.Goals as goal
 use Rattle.base.proofs.Options.{handed_on}
 
 pub returns-in_err-d : goal.returns-in_err-d
-returns-in_err-d c = rw (handed_on _ c.from_residual.ensures) (λ τ. another (Reads _ _ _ _ _) _ _ _ _ _ _ (via c.expect_colon.ensures c.in_err-d.was) (refuses refl))
+returns-in_err-d c = rw (handed_on _ c.from_residual.ensures) (record { read = another (Reads _ _ _ _ _) _ _ _ _ _ _ (via (c.expect.ensures ∙ colon_expected _ _ _) c.in_err-d.was) (refuses refl); beside = refl })
 
 pub returns-in_err-t : goal.returns-in_err-t
-returns-in_err-t c = rw (handed_on _ c.from_residual-in_err-t.ensures) (λ τ. beyond (Reads _ _ _ _ _) _ _ _ _ _ _ (via c.expect_colon.ensures c.in_ok-d.was) (λ m1. no_token (Reads _ _ _ _ _) _ _ _ _ _ (via c.read_mandatory_token.ensures c.in_err-t.was) (refuses refl)))
+returns-in_err-t c = rw (handed_on _ c.from_residual-in_err-t.ensures) (record { read = beyond (Reads _ _ _ _ _) _ _ _ _ _ _ (via (c.expect.ensures ∙ colon_expected _ _ _) c.in_ok-d.was) (λ m1. no_token (Reads _ _ _ _ _) _ _ _ _ _ (via c.read_mandatory_token.ensures c.in_err-t.was) (refuses refl)); beside = refl })
 
 pub returns-in_err-g : goal.returns-in_err-g
-returns-in_err-g c = rw (handed_on _ c.from_residual-in_err-g.ensures) (λ τ. beyond (Reads _ _ _ _ _) _ _ _ _ _ _ (via c.expect_colon.ensures c.in_ok-d.was) (λ m1. got (Reads _ _ _ _ _) _ _ _ _ _ (via c.read_mandatory_token.ensures c.in_ok-t.was) (λ m2. another (Reads _ _ _ _ _) _ _ _ _ _ _ (via c.expect_semicolon.ensures c.in_err-g.was) (refuses refl))))
+returns-in_err-g c = rw (handed_on _ c.from_residual-in_err-g.ensures) (record { read = beyond (Reads _ _ _ _ _) _ _ _ _ _ _ (via (c.expect.ensures ∙ colon_expected _ _ _) c.in_ok-d.was) (λ m1. got (Reads _ _ _ _ _) _ _ _ _ _ (via c.read_mandatory_token.ensures c.in_ok-t.was) (λ m2. another (Reads _ _ _ _ _) _ _ _ _ _ _ (via (c.expect-2.ensures ∙ semicolon_expected _ _ _) c.in_err-g.was) (refuses refl))); beside = refl })
 
 pub returns : goal.returns
-returns c = λ τ. beyond (Reads _ _ _ _ _) _ _ _ _ _ _ (via c.expect_colon.ensures c.in_ok-d.was) (λ m1. got (Reads _ _ _ _ _) _ _ _ _ _ (via c.read_mandatory_token.ensures c.in_ok-t.was) (λ m2. beyond (Reads _ _ _ _ _) _ _ _ _ _ _ (via c.expect_semicolon.ensures c.in_ok-g.was) (λ m3. widen (omega arith) (c.store_definition.ensures τ))))
+returns c = record { read = beyond (Reads _ _ _ _ _) _ _ _ _ _ _ (via (c.expect.ensures ∙ colon_expected _ _ _) c.in_ok-d.was) (λ m1. got (Reads _ _ _ _ _) _ _ _ _ _ (via c.read_mandatory_token.ensures c.in_ok-t.was) (λ m2. beyond (Reads _ _ _ _ _) _ _ _ _ _ _ (via (c.expect-2.ensures ∙ semicolon_expected _ _ _) c.in_ok-g.was) (λ m3. widen (omega arith) (c.store_definition.ensures.read)))); beside = c.store_definition.ensures.beside }

@@ -20,13 +20,13 @@ returns-in_err-map_err c = λ τ E I C R.
 pub returns-in-End : goal.returns-in-End
 returns-in-End c = λ τ E I C R. stepped_end (Statements _ _ _ _ _ _ _ _) _ _ _ _ _ _ (via c.next.ensures (mapped_ok _ _ _ c.map_err.ensures.cases c.in_ok-map_err.was ∙ ap Ok c.in-End.is)) (end_of_text _)
 
-pub returns-in-Import : goal.returns-in-Import
+pub returns-in-Took-Import-default-default-default : goal.returns-in-Took-Import-default-default-default
 unfolding token_of on_import on_color_ref
-returns-in-Import c = λ τ E I C R. stepped_as (Statements _ _ _ _ _ _ _ _) _ _ _ _ _ _ (via c.next.ensures (mapped_ok _ _ _ c.map_err.ensures.cases c.in_ok-map_err.was ∙ ap Ok c.in-Took.is)) c.in-Import.is (λ m. import_of _ _ m)
+returns-in-Took-Import-default-default-default c = λ τ E I C R. stepped_as (Statements _ _ _ _ _ _ _ _) _ _ _ _ _ _ (via c.next.ensures (mapped_ok _ _ _ c.map_err.ensures.cases c.in_ok-map_err.was ∙ ap Ok c.in-Took-Import-default-default-default.is)) c.in-Took-Import-default-default-default.field-0-is (λ m. import_of _ _ m)
 
-pub returns-in-ColorRef : goal.returns-in-ColorRef
+pub returns-in-Took-ColorRef-default-default-default : goal.returns-in-Took-ColorRef-default-default-default
 unfolding token_of on_import on_color_ref
-returns-in-ColorRef c = λ τ E I C R. stepped_as (Statements _ _ _ _ _ _ _ _) _ _ _ _ _ _ (via c.next.ensures (mapped_ok _ _ _ c.map_err.ensures.cases c.in_ok-map_err.was ∙ ap Ok c.in-Took.is)) c.in-ColorRef.is (λ m. color_of _ _ m)
+returns-in-Took-ColorRef-default-default-default c = λ τ E I C R. stepped_as (Statements _ _ _ _ _ _ _ _) _ _ _ _ _ _ (via c.next.ensures (mapped_ok _ _ _ c.map_err.ensures.cases c.in_ok-map_err.was ∙ ap Ok c.in-Took-ColorRef-default-default-default.is)) c.in-Took-ColorRef-default-default-default.field-0-is (λ m. color_of _ _ m)
 
-pub returns-in_default : goal.returns-in_default
-returns-in_default c = λ τ E I C R. stepped (Statements _ _ _ _ _ _ _ _) _ _ _ _ _ _ (via c.next.ensures (mapped_ok _ _ _ c.map_err.ensures.cases c.in_ok-map_err.was ∙ ap Ok c.in-Took.is)) (λ m. not_import _ (0 ∷ 5 ∷ []) _ (opened c.in_default.in_default-own.keys3) (Statements _ _ _ _ _ _ _ _) _ _ tt (not_color_ref _ (0 ∷ 5 ∷ []) _ (opened c.in_default.in_default-own.keys3) (Statements _ _ _ _ _ _ _ _) _ _ tt (rule_at _ _ _ m)))
+pub returns-in-Took : goal.returns-in-Took
+returns-in-Took c = λ τ E I C R. stepped (Statements _ _ _ _ _ _ _ _) _ _ _ _ _ _ (via c.next.ensures (mapped_ok _ _ _ c.map_err.ensures.cases c.in_ok-map_err.was ∙ ap Ok c.in-Took.is)) (λ m. not_import _ (0 ∷ 5 ∷ []) _ (opened c.in-Took.in-Took-own'.keys3) (Statements _ _ _ _ _ _ _ _) _ _ tt (not_color_ref _ (0 ∷ 5 ∷ []) _ (opened c.in-Took.in-Took-own'.keys3) (Statements _ _ _ _ _ _ _ _) _ _ tt (rule_at _ _ _ m)))

@@ -6,30 +6,30 @@ pub returns-then-ds-n-eq0 : goal.returns-then-ds-n-eq0
 returns-then-ds-n-eq0 c = decimal_empty
     c.args.minus
     c.args.t.now _ _ _ _ _
-    c.first_digits-ds.ensures
-    c.after_digits-r.ensures
-    c.decimal_digits-fs.ensures
-    c.after_decimals.ensures
+    c.split_digits.ensures.first
+    c.split_digits.ensures.rest
+    c.split_decimals.ensures.first
+    c.split_decimals.ensures.rest
     c.power_of.ensures c.if-ds-n-eq0.true
 
 pub returns-in_default : goal.returns-in_default
 returns-in_default c = decimal_cut
     c.args.minus
     c.args.t.now _ _ _ _ _
-    c.first_digits-ds.ensures
-    c.after_digits-r.ensures
-    c.decimal_digits-fs.ensures
-    c.after_decimals.ensures c.power_of.ensures
+    c.split_digits.ensures.first
+    c.split_digits.ensures.rest
+    c.split_decimals.ensures.first
+    c.split_decimals.ensures.rest c.power_of.ensures
     c.in_default.is
 
 pub returns : goal.returns
 returns c = decimal_value
     c.args.minus
     c.args.t.now _ _ _ _ _
-    c.first_digits-ds.ensures
-    c.after_digits-r.ensures
-    c.decimal_digits-fs.ensures
-    c.after_decimals.ensures
+    c.split_digits.ensures.first
+    c.split_digits.ensures.rest
+    c.split_decimals.ensures.first
+    c.split_decimals.ensures.rest
     c.power_of.ensures _ _ _ _ _
     c.in-Some.is c.if-ds-n-eq0.false
     c.spell.ensures c.spell-2.ensures (search rules) c.value_of.ensures

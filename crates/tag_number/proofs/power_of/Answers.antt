@@ -1,15 +1,13 @@
+use native.Mathlib.Omega.{arith}
+use Rattle.std.proofs.lemmas.Grind.{common_steps}
 use Rattle.tag_number.proofs.Decimals.{power_none, power_not, power_written}
 use Rattle.tag_number.proofs.power_of.Goals as goal
 
-pub returns-then-v-eq0 : goal.returns-then-v-eq0
-returns-then-v-eq0 c = power_none c.args.v.now c.if-v-eq0.true
+pub returns-in-empty : goal.returns-in-empty
+returns-in-empty c = power_none c.args.v.now c.in-empty.len_below
 
-pub returns-then-is_e : goal.returns-then-is_e
-returns-then-is_e c = power_written
-    c.args.v.now _ _ _
-    c.if-v-eq0.false c.is_e.ensures
-    c.if-is_e.true c.tail.ensures c.written_power.ensures
+pub returns-in-101 : goal.returns-in-101
+returns-in-101 c = power_written c.args.v.now c.in-101.len_at_least _ (λ z. omega arith) c.written_power.ensures
 
-pub returns : goal.returns
-returns c = power_not c.args.v.now _ c.if-v-eq0.false
-    c.is_e.ensures c.if-is_e.false
+pub returns-in_default : goal.returns-in_default
+returns-in_default c = power_not c.args.v.now c.in_default.len_at_least (λ z. grind (arith, common_steps)) (λ z. grind (arith, common_steps))

@@ -10,10 +10,10 @@ use Rattle.tests.proofs.read_bang.Goals as goal
 use Rattle.base.proofs.Options.{handed_on}
 
 pub returns-in_err-a : goal.returns-in_err-a
-returns-in_err-a c = rw (handed_on _ c.from_residual.ensures) (λ τ. no_word (Reads _ _ _ _ _) _ _ _ _ _ (via c.read_identifier.ensures c.in_err-a.was) (refuses refl))
+returns-in_err-a c = rw (handed_on _ c.from_residual.ensures) (record { read = no_word (Reads _ _ _ _ _) _ _ _ _ _ (via c.read_identifier.ensures c.in_err-a.was) (refuses refl); beside = refl })
 
 pub returns-in_err-key : goal.returns-in_err-key
-returns-in_err-key c = rw (handed_on _ c.from_residual-in_err-key.ensures) (λ τ. a_word (Reads _ _ _ _ _) _ _ _ _ _ (via c.read_identifier.ensures c.in_ok-a.was) (λ m1. no_key (Reads _ _ _ _ _) _ _ _ _ _ (bang_test (reading c.args.text.bundle.now)) (via c.read_key.ensures c.in_err-key.was) (refuses refl)))
+returns-in_err-key c = rw (handed_on _ c.from_residual-in_err-key.ensures) (record { read = a_word (Reads _ _ _ _ _) _ _ _ _ _ (via c.read_identifier.ensures c.in_ok-a.was) (λ m1. no_key (Reads _ _ _ _ _) _ _ _ _ _ (bang_test (reading c.args.text.bundle.now)) (via c.read_key.ensures c.in_err-key.was) (refuses refl)); beside = refl })
 
 pub returns : goal.returns
-returns c = λ τ. a_word (Reads _ _ _ _ _) _ _ _ _ _ (via c.read_identifier.ensures c.in_ok-a.was) (λ m1. a_key (Reads _ _ _ _ _) _ _ _ _ _ (bang_test (reading c.args.text.bundle.now)) (via c.read_key.ensures c.in_ok-key.was) (λ m2. widen (omega arith) (c.bang_test.ensures τ)))
+returns c = record { read = a_word (Reads _ _ _ _ _) _ _ _ _ _ (via c.read_identifier.ensures c.in_ok-a.was) (λ m1. a_key (Reads _ _ _ _ _) _ _ _ _ _ (bang_test (reading c.args.text.bundle.now)) (via c.read_key.ensures c.in_ok-key.was) (λ m2. widen (omega arith) (c.bang_test.ensures.read))); beside = c.bang_test.ensures.beside }

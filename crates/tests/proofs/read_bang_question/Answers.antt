@@ -16,11 +16,11 @@ use Rattle.base.proofs.Options.{handed_on}
 
 pub returns-in_err-t : goal.returns-in_err-t
 unfolding token_of is_sign
-returns-in_err-t c = rw (handed_on _ c.from_residual.ensures) (λ τ. no_token (Reads _ _ _ _ _) _ _ _ _ _ (via c.read_mandatory_token.ensures c.in_err-t.was) (refuses refl))
+returns-in_err-t c = rw (handed_on _ c.from_residual.ensures) (record { read = no_token (Reads _ _ _ _ _) _ _ _ _ _ (via c.read_mandatory_token.ensures c.in_err-t.was) (refuses refl); beside = refl })
 
 pub returns-in-RightBracket : goal.returns-in-RightBracket
 unfolding token_of is_sign
-returns-in-RightBracket c = λ τ. got_as (Reads _ _ _ _ _) _ _ _ _ _ (via c.read_mandatory_token.ensures c.in_ok-t.was) c.in-RightBracket.is (λ m1. widen (omega arith) (c.store_test.ensures _ _ (unary_row c.args.text.bundle.now is_false c.args.key c.args.n.number) τ))
+returns-in-RightBracket c = record { read = got_as (Reads _ _ _ _ _) _ _ _ _ _ (via c.read_mandatory_token.ensures c.in_ok-t.was) c.in-RightBracket.is (λ m1. widen (omega arith) (c.store_test.ensures.read _ _ (unary_row c.args.text.bundle.now is_false c.args.key c.args.store.now.tally.number))); beside = c.store_test.ensures.beside }
 
 pub returns-in_default : goal.returns-in_default
-returns-in_default c = λ τ. got (Reads _ _ _ _ _) _ _ _ _ _ (via c.read_mandatory_token.ensures c.in_ok-t.was) (λ m1. no_way (Reads _ _ _ _ _) _ _ _ (not_sign _ (10 ∷ []) _ (opened c.in_default.in_default-own.keys2) right_bracket tt) (refuses c.refuse.ensures))
+returns-in_default c = record { read = got (Reads _ _ _ _ _) _ _ _ _ _ (via c.read_mandatory_token.ensures c.in_ok-t.was) (λ m1. no_way (Reads _ _ _ _ _) _ _ _ (not_sign _ (10 ∷ []) _ (opened c.in_default.in_default-own.keys2) right_bracket tt) (refuses c.refuse.ensures)); beside = refl }

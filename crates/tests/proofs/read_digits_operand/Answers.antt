@@ -1,3 +1,5 @@
+use Rattle.std.proofs.Common.{◌∙◌}
+use Rattle.input.proofs.TokenLaws.{bracket_expected}
 use mathlib.Core.Path.{refl}
 use native.Mathlib.Omega.{arith}
 use Rattle.base.specs.Choice.{via}
@@ -8,10 +10,10 @@ use Rattle.tests.proofs.read_digits_operand.Goals as goal
 use Rattle.base.proofs.Options.{handed_on}
 
 pub returns-in_err-d : goal.returns-in_err-d
-returns-in_err-d c = rw (handed_on _ c.from_residual.ensures) (λ op w τ. another (Reads _ _ _ _ _) _ _ _ _ _ _ (via c.expect_right_bracket.ensures c.in_err-d.was) (refuses refl))
+returns-in_err-d c = rw (handed_on _ c.from_residual.ensures) (record { read = λ op w. another (Reads _ _ _ _ _) _ _ _ _ _ _ (via (c.expect.ensures ∙ bracket_expected _ _ _) c.in_err-d.was) (refuses refl); beside = refl })
 
 pub returns-then-is_whole : goal.returns-then-is_whole
-returns-then-is_whole c = λ op w τ. beyond (Reads _ _ _ _ _) _ _ _ _ _ _ (via c.expect_right_bracket.ensures c.in_ok-d.was) (λ m1. yes_way (Reads _ _ _ _ _) _ _ _ (via c.is_whole.ensures c.if-is_whole.true) (widen (omega arith) (c.store_number_test.ensures _ _ (digits_row c.args.text.bundle.now op c.args.key c.args.x w) τ)))
+returns-then-is_whole c = record { read = λ op w. beyond (Reads _ _ _ _ _) _ _ _ _ _ _ (via (c.expect.ensures ∙ bracket_expected _ _ _) c.in_ok-d.was) (λ m1. yes_way (Reads _ _ _ _ _) _ _ _ (via c.is_whole.ensures c.if-is_whole.true) (widen (omega arith) (c.store_number_test.ensures.read _ _ (digits_row c.args.text.bundle.now op c.args.key c.args.x w)))); beside = c.store_number_test.ensures.beside }
 
 pub returns : goal.returns
-returns c = λ op w τ. beyond (Reads _ _ _ _ _) _ _ _ _ _ _ (via c.expect_right_bracket.ensures c.in_ok-d.was) (λ m1. no_way (Reads _ _ _ _ _) _ _ _ (via c.is_whole.ensures c.if-is_whole.false) (refuses c.refuse_reached.ensures))
+returns c = record { read = λ op w. beyond (Reads _ _ _ _ _) _ _ _ _ _ _ (via (c.expect.ensures ∙ bracket_expected _ _ _) c.in_ok-d.was) (λ m1. no_way (Reads _ _ _ _ _) _ _ _ (via c.is_whole.ensures c.if-is_whole.false) (refuses c.refuse_reached.ensures)); beside = refl }

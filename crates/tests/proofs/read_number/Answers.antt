@@ -1,3 +1,5 @@
+use Rattle.std.proofs.Common.{◌∙◌}
+use Rattle.input.proofs.TokenLaws.{bracket_expected}
 use mathlib.Core.Path.{refl}
 use native.Mathlib.Omega.{arith}
 use Rattle.base.specs.Choice.{via}
@@ -8,10 +10,10 @@ use Rattle.tests.proofs.read_number.Goals as goal
 use Rattle.base.proofs.Options.{handed_on}
 
 pub returns-in_err-x : goal.returns-in_err-x
-returns-in_err-x c = rw (handed_on _ c.from_residual.ensures) (λ op w τ. no_figure (Reads _ _ _ _ _) _ _ _ _ _ (via c.read_figure.ensures c.in_err-x.was) (refuses refl))
+returns-in_err-x c = rw (handed_on _ c.from_residual.ensures) (record { read = λ op w. no_figure (Reads _ _ _ _ _) _ _ _ _ _ (via c.read_figure.ensures c.in_err-x.was) (refuses refl); beside = refl })
 
 pub returns-in_err-f : goal.returns-in_err-f
-returns-in_err-f c = rw (handed_on _ c.from_residual-in_err-f.ensures) (λ op w τ. a_figure (Reads _ _ _ _ _) _ _ _ _ _ (via c.read_figure.ensures c.in_ok-x.was) (λ m1. another (Reads _ _ _ _ _) _ _ _ _ _ _ (via c.expect_right_bracket.ensures c.in_err-f.was) (refuses refl)))
+returns-in_err-f c = rw (handed_on _ c.from_residual-in_err-f.ensures) (record { read = λ op w. a_figure (Reads _ _ _ _ _) _ _ _ _ _ (via c.read_figure.ensures c.in_ok-x.was) (λ m1. another (Reads _ _ _ _ _) _ _ _ _ _ _ (via (c.expect.ensures ∙ bracket_expected _ _ _) c.in_err-f.was) (refuses refl)); beside = refl })
 
 pub returns : goal.returns
-returns c = λ op w τ. a_figure (Reads _ _ _ _ _) _ _ _ _ _ (via c.read_figure.ensures c.in_ok-x.was) (λ m1. beyond (Reads _ _ _ _ _) _ _ _ _ _ _ (via c.expect_right_bracket.ensures c.in_ok-f.was) (λ m2. widen (omega arith) (c.store_number_test.ensures _ _ (numeric_row c.args.text.bundle.now op c.args.key c.in_ok-x.x w) τ)))
+returns c = record { read = λ op w. a_figure (Reads _ _ _ _ _) _ _ _ _ _ (via c.read_figure.ensures c.in_ok-x.was) (λ m1. beyond (Reads _ _ _ _ _) _ _ _ _ _ _ (via (c.expect.ensures ∙ bracket_expected _ _ _) c.in_ok-f.was) (λ m2. widen (omega arith) (c.store_number_test.ensures.read _ _ (numeric_row c.args.text.bundle.now op c.args.key c.in_ok-x.x w)))); beside = c.store_number_test.ensures.beside }

@@ -4,7 +4,7 @@ use mathlib.Core.List.{[], ◌∷◌}
 use Rattle.base.specs.Choice.{via}
 use Rattle.input.proofs.TokenLaws.{not_identifier, not_number_lem}
 use Rattle.keep.proofs.Laws.{no_token, got, got_as, widen}
-use Rattle.keep.specs.Answers.{Reads, refuses, at_tests}
+use Rattle.keep.specs.Answers.{Reads, refuses}
 use Rattle.grammar.specs.View.{on_identifier, on_number}
 use Rattle.input.specs.Text.{token_of}
 use borrow.Enum.Refused.{opened}
@@ -13,15 +13,15 @@ use Rattle.base.proofs.Options.{handed_on}
 
 pub returns-in_err-t : goal.returns-in_err-t
 unfolding token_of on_identifier on_number
-returns-in_err-t c = rw (handed_on _ c.from_residual.ensures) (λ op w f τ. no_token (Reads _ _ _ _ _) _ _ _ _ _ (via c.read_mandatory_token.ensures c.in_err-t.was) (refuses refl))
+returns-in_err-t c = rw (handed_on _ c.from_residual.ensures) (record { read = λ op w f. no_token (Reads _ _ _ _ _) _ _ _ _ _ (via c.read_mandatory_token.ensures c.in_err-t.was) (refuses refl); beside = refl })
 
 pub returns-in-Identifier : goal.returns-in-Identifier
 unfolding token_of on_identifier on_number
-returns-in-Identifier c = λ op w f τ. got_as (Reads _ _ _ _ _) _ _ _ _ _ (via c.read_mandatory_token.ensures c.in_ok-t.was) c.in-Identifier.is (λ m1. widen (omega arith) (c.read_word_operand.ensures op w (at_tests τ c.args.tests.now c.args.numbers.now c.args.n)))
+returns-in-Identifier c = record { read = λ op w f. got_as (Reads _ _ _ _ _) _ _ _ _ _ (via c.read_mandatory_token.ensures c.in_ok-t.was) c.in-Identifier.is (λ m1. widen (omega arith) (c.read_word_operand.ensures.read op w)); beside = c.read_word_operand.ensures.beside }
 
 pub returns-in-Number : goal.returns-in-Number
 unfolding token_of on_identifier on_number
-returns-in-Number c = λ op w f τ. got_as (Reads _ _ _ _ _) _ _ _ _ _ (via c.read_mandatory_token.ensures c.in_ok-t.was) c.in-Number.is (λ m1. widen (omega arith) (c.read_digits_operand.ensures op f τ))
+returns-in-Number c = record { read = λ op w f. got_as (Reads _ _ _ _ _) _ _ _ _ _ (via c.read_mandatory_token.ensures c.in_ok-t.was) c.in-Number.is (λ m1. widen (omega arith) (c.read_digits_operand.ensures.read op f)); beside = c.read_digits_operand.ensures.beside }
 
 pub returns-in_default : goal.returns-in_default
-returns-in_default c = λ op w f τ. got (Reads _ _ _ _ _) _ _ _ _ _ (via c.read_mandatory_token.ensures c.in_ok-t.was) (λ m1. not_identifier _ (1 ∷ 3 ∷ []) _ (opened c.in_default.in_default-own.keys3) (Reads _ _ _ _ _) _ _ tt (not_number_lem _ (1 ∷ 3 ∷ []) _ (opened c.in_default.in_default-own.keys3) (Reads _ _ _ _ _) _ _ tt (refuses c.refuse.ensures)))
+returns-in_default c = record { read = λ op w f. got (Reads _ _ _ _ _) _ _ _ _ _ (via c.read_mandatory_token.ensures c.in_ok-t.was) (λ m1. not_identifier _ (1 ∷ 3 ∷ []) _ (opened c.in_default.in_default-own.keys3) (Reads _ _ _ _ _) _ _ tt (not_number_lem _ (1 ∷ 3 ∷ []) _ (opened c.in_default.in_default-own.keys3) (Reads _ _ _ _ _) _ _ tt (refuses c.refuse.ensures))); beside = refl }

@@ -10,7 +10,7 @@ use Rattle.tests.proofs.read_plain.Goals as goal
 use Rattle.base.proofs.Options.{handed_on}
 
 pub returns-in_err-key : goal.returns-in_err-key
-returns-in_err-key c = rw (handed_on _ c.from_residual.ensures) (λ τ. no_key (Reads _ _ _ _ _) _ _ _ _ _ (plain_test (reading c.args.text.bundle.now)) (via c.read_key.ensures c.in_err-key.was) (refuses refl))
+returns-in_err-key c = rw (handed_on _ c.from_residual.ensures) (record { read = no_key (Reads _ _ _ _ _) _ _ _ _ _ (plain_test (reading c.args.text.bundle.now)) (via c.read_key.ensures c.in_err-key.was) (refuses refl); beside = refl })
 
 pub returns : goal.returns
-returns c = λ τ. a_key (Reads _ _ _ _ _) _ _ _ _ _ (plain_test (reading c.args.text.bundle.now)) (via c.read_key.ensures c.in_ok-key.was) (λ m1. widen (omega arith) (c.plain_test.ensures τ))
+returns c = record { read = a_key (Reads _ _ _ _ _) _ _ _ _ _ (plain_test (reading c.args.text.bundle.now)) (via c.read_key.ensures c.in_ok-key.was) (λ m1. widen (omega arith) (c.plain_test.ensures.read)); beside = c.plain_test.ensures.beside }

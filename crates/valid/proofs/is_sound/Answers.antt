@@ -2,7 +2,7 @@ use native.Mathlib.Omega.{arith}
 use mathlib.Core.Path.{sym, ◌∙◌}
 use Rattle.std.proofs.Common.{rules, ap}
 use mathlib.Core.Bool.{not}
-use lib.ListN.{length-take, take}
+use lib.ListN.{length, length-take, take}
 use borrow.Author.Tests.{not-false, tests}
 use Rattle.std.proofs.lemmas.Iterator.{YieldsList-from_slice}
 use Rattle.std.proofs.lemmas.Iterator.Search.{all_from_yields_List}
@@ -33,6 +33,11 @@ slice_bounds-properties-end c =
     let room = counts_room _ _ _ _ _ _ (via c.counts_held.ensures (not-false _ (ap not c.if-not-counts_held.false))) in
     omega (arith, room.3, c.as_chunks-4.ensures.front_len, length-take c.args.n.properties c.as_chunks-4.result.0.now)
 
+pub slice_bounds-numbers-end : goal.slice_bounds-numbers-end
+slice_bounds-numbers-end c =
+    let room = counts_room _ _ _ _ _ _ (via c.counts_held.ensures (not-false _ (ap not c.if-not-counts_held.false))) in
+    omega (arith, room.4, length-take c.args.n.numbers c.args.numbers.now)
+
 pub returns-then-all-3 : goal.returns-then-all-3
 unfolding tables_sound entries_sound
 returns-then-all-3 c =
@@ -51,7 +56,7 @@ returns-then-all-3 c =
             (sym v.value-is ∙ w.if-all-2.true))
             (if_true _ _ _
             (via
-            (tests_are c.args.tests.now c.args.n.tests room.2 _ c.as_chunks-3.ensures.front c.as_chunks-3.ensures.front_len _ _ _ _ (all_from_yields_List (λ e. test_sound e c.args.numbers.now c.args.n.numbers c.args.bundle 0) _ _ _ w.all-then-all-2.ensures.ran (YieldsList-from_slice (take c.args.n.tests c.as_chunks-3.result.0.now) cc) (λ x b q k. search (rules, tests))))
+            (tests_are c.args.tests.now c.args.n.tests room.2 _ c.as_chunks-3.ensures.front c.as_chunks-3.ensures.front_len _ c.args.numbers.now c.args.n.numbers _ room.4 (all_from_yields_List (λ e. test_sound e (take c.args.n.numbers c.args.numbers.now) (length (take c.args.n.numbers c.args.numbers.now)) c.args.bundle 0) _ _ _ w.all-then-all-2.ensures.ran (YieldsList-from_slice (take c.args.n.tests c.as_chunks-3.result.0.now) cc) (λ x b q k. search (rules, tests))))
             (sym w.value-is ∙ yes))
             (properties_are c.args.properties.now c.args.n.properties room.3 _ c.as_chunks-4.ensures.front c.as_chunks-4.ensures.front_len _ _ _ (all_from_yields_List (λ e. property_sound e c.args.n.numbers c.args.bundle 0) _ _ _ c.all-then-all-3.ensures.ran (YieldsList-from_slice (take c.args.n.properties c.as_chunks-4.result.0.now) cc) (λ x b q k. search (rules, tests))))))
         | else-all v ↦ clash w.if-all-2.true (v.value-is ∙ v.if-all.false)
@@ -78,7 +83,7 @@ returns-else-all-3 c =
                 (sym v.value-is ∙ w.if-all-2.true))
                 (if_false _ _ _
                 (via
-                (tests_are c.args.tests.now c.args.n.tests room.2 _ c.as_chunks-3.ensures.front c.as_chunks-3.ensures.front_len _ _ _ _ (all_from_yields_List (λ e. test_sound e c.args.numbers.now c.args.n.numbers c.args.bundle 0) _ _ _ w.all-then-all-2.ensures.ran (YieldsList-from_slice (take c.args.n.tests c.as_chunks-3.result.0.now) cc) (λ x b q k. search (rules, tests))))
+                (tests_are c.args.tests.now c.args.n.tests room.2 _ c.as_chunks-3.ensures.front c.as_chunks-3.ensures.front_len _ c.args.numbers.now c.args.n.numbers _ room.4 (all_from_yields_List (λ e. test_sound e (take c.args.n.numbers c.args.numbers.now) (length (take c.args.n.numbers c.args.numbers.now)) c.args.bundle 0) _ _ _ w.all-then-all-2.ensures.ran (YieldsList-from_slice (take c.args.n.tests c.as_chunks-3.result.0.now) cc) (λ x b q k. search (rules, tests))))
                 (sym w.value-is ∙ no))
                 no)
             | else-all-2 w ↦

@@ -1,4 +1,5 @@
 use mathlib.Core.Path.{refl}
+use mathlib.Core.Logic.{inl, inr}
 use Rattle.base.specs.Choice.{via}
 use Rattle.cursor.proofs.Onward.{char_fits}
 use Rattle.cursor.specs.Cursor.{next_char}
@@ -10,11 +11,11 @@ overflow_add-at c = search char_fits
 
 pub returns-in-Bad : goal.returns-in-Bad
 unfolding next_char
-returns-in-Bad c = Char-Bad _ _ _ _ (via c.peek.ensures c.in-Bad.is) (rw c.passed.ensures refl)
-
-pub returns-in-End : goal.returns-in-End
-unfolding next_char
-returns-in-End c = Char-End _ _ _ _ (via c.peek.ensures c.in-End.is) (rw c.passed-in-End.ensures refl)
+returns-in-Bad c =
+    elim c.in-Bad.is [
+      | inl q ↦ Char-Bad _ _ _ _ (via c.peek.ensures q) (rw c.passed.ensures refl)
+      | inr q ↦ Char-End _ _ _ _ (via c.peek.ensures q) (rw c.passed.ensures refl)
+    ]
 
 pub returns-in-Code : goal.returns-in-Code
 unfolding next_char

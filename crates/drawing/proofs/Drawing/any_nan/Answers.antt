@@ -16,18 +16,20 @@ loop-i-preserved-then-not-is_styled c = let a = c.args in let t = a.self.now.tab
 pub returns-then-is_nan : goal.returns-then-is_nan
 returns-then-is_nan c = let a = c.args in let t = a.self.now.tables.now in
     let l = c.loop-i in
+    let z = c.z_index.ensures in
     nan_found t.bundle.now t.selectors.now t.properties.now t.numbers.now a.maps.now a.m a.kind
     l.i (omega (arith, c.loop-i-test.true, c.m.view_is))
     _ c.is_styled.ensures l.invariant c.if-not-is_styled.false
-    _ c.row_of.ensures _ c.z_index.ensures (simp (← c.is_nan.ensures.value, c.if-is_nan.true))
+    _ c.at.ensures.numbers _ (rw c.at.ensures.of_tables at z) (simp (← c.is_nan.ensures.value, c.if-is_nan.true))
 
 pub loop-i-preserved : goal.loop-i-preserved
 loop-i-preserved c = let a = c.args in let t = a.self.now.tables.now in
     let l = c.loop-i in
+    let z = c.z_index.ensures in
     nan_next t.bundle.now t.selectors.now t.properties.now t.numbers.now a.maps.now a.m a.kind
     l.i (omega (arith, c.loop-i-test.true, c.m.view_is))
     _ c.is_styled.ensures l.invariant c.if-not-is_styled.false
-    _ c.row_of.ensures _ c.z_index.ensures (simp (← c.is_nan.ensures.value, c.if-is_nan.false))
+    _ c.at.ensures.numbers _ (rw c.at.ensures.of_tables at z) (simp (← c.is_nan.ensures.value, c.if-is_nan.false))
 
 pub returns : goal.returns
 returns c = let a = c.args in let t = a.self.now.tables.now in

@@ -1,14 +1,8 @@
-use Rattle.properties.proofs.FormLaws.{form_none, form_last, form_more}
+use Rattle.properties.proofs.FormLaws.{form_none, form_last, form_more, semicolon_is}
 use Rattle.input.proofs.Fuel.{mandatory_moves}
-use Rattle.input.proofs.TokenLaws.{not_sign, sign_known}
-use Rattle.input.specs.Text.{token_of}
-use Rattle.grammar.specs.View.{is_sign}
-use Rattle.grammar.specs.Token.{semi_colon}
 use Rattle.base.specs.Choice.{via}
 use native.Mathlib.Omega.{arith}
-use mathlib.Core.List.{[], ◌∷◌}
-use mathlib.Core.Path.{refl}
-use borrow.Enum.Refused.{opened}
+use mathlib.Core.Path.{◌∙◌}
 use Rattle.properties.proofs.eval.read_form.Goals as goal
 use Rattle.base.proofs.Options.{handed_on}
 
@@ -18,12 +12,11 @@ loop-t-init c = (omega arith, λ r q. q)
 pub returns-in_err-t : goal.returns-in_err-t
 returns-in_err-t c = rw (handed_on _ c.from_residual.ensures) (c.loop-t.invariant.1 _ (form_none _ _ _ _ _ (via c.read_mandatory_token.ensures c.in_err-t.was)))
 
-pub returns-in-SemiColon : goal.returns-in-SemiColon
-unfolding token_of is_sign
-returns-in-SemiColon c = c.loop-t.invariant.1 _ (form_last _ _ _ _ _ (via c.read_mandatory_token.ensures c.in_ok-t.was) (sign_known _ semi_colon c.in-SemiColon.is refl) c.loop-t.invariant.0)
+pub returns-then-eq : goal.returns-then-eq
+returns-then-eq c = c.loop-t.invariant.1 _ (form_last _ _ _ _ _ (via c.read_mandatory_token.ensures c.in_ok-t.was) (semicolon_is _ _ c.eq.ensures ∙ c.if-eq.true) c.loop-t.invariant.0)
 
 pub loop-t-smaller : goal.loop-t-smaller
 loop-t-smaller c = mandatory_moves _ _ _ _ _ _ (via c.read_mandatory_token.ensures c.in_ok-t.was)
 
 pub loop-t-preserved : goal.loop-t-preserved
-loop-t-preserved c = let h = via c.read_mandatory_token.ensures c.in_ok-t.was in (omega (arith, mandatory_moves _ _ _ _ _ _ h, c.loop-t.invariant.0), λ r q. c.loop-t.invariant.1 r (form_more _ _ _ _ _ r h (not_sign _ (24 ∷ []) _ (opened c.in_default.in_default-own.keys2) semi_colon tt) c.form_next-f.ensures q))
+loop-t-preserved c = let h = via c.read_mandatory_token.ensures c.in_ok-t.was in (omega (arith, mandatory_moves _ _ _ _ _ _ h, c.loop-t.invariant.0), λ r q. c.loop-t.invariant.1 r (form_more _ _ _ _ _ r h (semicolon_is _ _ c.eq.ensures ∙ c.if-eq.false) c.form_next-f.ensures q))

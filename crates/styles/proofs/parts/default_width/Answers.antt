@@ -10,7 +10,8 @@ returns-in-None c = let a = c.args in
 
 pub returns-in-Some : goal.returns-in-Some
 returns-in-Some c = let a = c.args in
+    let w = c.number.ensures in
     let p = below_some _ _ _ _ c.layer_place.ensures c.in-Some.is in
     width_there a.tables.now.bundle.now a.tables.now.selectors.now a.tables.now.properties.now a.tables.now.numbers.now a.maps.now a.n _
     p.0 p.1 _
-    c.row_of.ensures _ c.number.ensures _ c.width_or_zero.ensures
+    c.at.ensures.numbers _ (rw c.at.ensures.of_tables at w) _ c.width_or_zero.ensures

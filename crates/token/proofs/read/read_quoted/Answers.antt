@@ -3,11 +3,11 @@ use mathlib.Core.Path.{ap}
 use Rattle.base.specs.Turns.{done}
 use native.Mathlib.Omega.{arith}
 use mathlib.Core.Path.{refl, sym}
-use borrow.Author.Tests.{eq-eqb, ne_eqb}
+use borrow.Author.Tests.{eq-eqb}
 use Rattle.base.proofs.Loops.{going_start, going_more, going_done}
-use Rattle.base.specs.Choice.{if_false, if_true, via}
+use Rattle.base.specs.Choice.{pick, if_true, via}
 use Rattle.cursor.proofs.Onward.{next_on}
-use Rattle.cursor.specs.Elim.{Next-Done, Next-Got}
+use Rattle.base.specs.Option.{on_result, result_err, result_ok}
 use Rattle.token.specs.Read.{read_quoted}
 use Rattle.token.proofs.read.read_quoted.Goals as goal
 
@@ -15,14 +15,15 @@ pub loop-e-init : goal.loop-e-init
 unfolding read_quoted
 loop-e-init c = going_start _ _ _ _ _ (omega arith)
 
-pub returns-in-Done : goal.returns-in-Done
-returns-in-Done c = going_done _ _ _ _ _ _ c.loop-e.invariant (sym (Next-Done _ _ _ (via c.next_char.ensures c.in-Done.is) (ap (λ e. done (Err e)) c.lexer_error.ensures)))
+pub returns-in-Err : goal.returns-in-Err
+returns-in-Err c = going_done _ _ _ _ _ _ c.loop-e.invariant (sym (result_err _ _ _ (via c.next_char.ensures c.in-Err.is) (ap (λ e. done (Err e)) c.lexer_error.ensures)))
 
-pub returns-then-ch-eq34 : goal.returns-then-ch-eq34
-returns-then-ch-eq34 c = going_done _ _ _ _ _ _ c.loop-e.invariant (sym (Next-Got _ _ _ (via c.next_char.ensures c.in-Got.is) (if_true _ _ _ (eq-eqb _ _ c.if-ch-eq34.true) refl)))
+pub returns-in-Ok-eq34-default : goal.returns-in-Ok-eq34-default
+returns-in-Ok-eq34-default c = going_done _ _ _ _ _ _ c.loop-e.invariant (sym (result_ok _ _ _ (via c.next_char.ensures c.in-Ok-eq34-default.is) (if_true _ _ _ (eq-eqb _ _ c.in-Ok-eq34-default.field-0-0-test) refl)))
 
 pub loop-e-smaller : goal.loop-e-smaller
 loop-e-smaller c = search next_on
 
 pub loop-e-preserved : goal.loop-e-preserved
-loop-e-preserved c = going_more _ _ _ _ _ _ _ c.loop-e.invariant (sym (Next-Got _ _ _ (via c.next_char.ensures c.in-Got.is) (if_false _ _ _ (ne_eqb _ _ c.if-ch-eq34.false) refl))) (search next_on)
+unfolding on_result pick
+loop-e-preserved c = going_more _ _ _ _ _ _ _ c.loop-e.invariant (grind arith) (search next_on)

@@ -8,7 +8,7 @@ use Rattle.walk.proofs.layers.find_named.Goals as goal
 
 pub loop-i-init : goal.loop-i-init
 loop-i-init c = let a = c.args in
-    ap (seek (layer_in a.bundle.now a.selectors.now) a.t.now a.name.now 0) (less_zero a.n)
+    ap (seek (layer_in a.tables.now.bundle.now a.tables.now.selectors.now) a.t.now a.name.now 0) (less_zero a.n)
 
 pub returns-then-is_layer : goal.returns-then-is_layer
 returns-then-is_layer c = let a = c.args in
@@ -27,5 +27,5 @@ loop-i-preserved c = let a = c.args in
 pub returns : goal.returns
 returns c = let a = c.args in
     let loop = c.loop-i in
-    let e = sym (seek_end (layer_in a.bundle.now a.selectors.now) a.t.now a.name.now loop.i a.n (omega arith)) ∙ loop.invariant in
+    let e = sym (seek_end (layer_in a.tables.now.bundle.now a.tables.now.selectors.now) a.t.now a.name.now loop.i a.n (omega arith)) ∙ loop.invariant in
     below_none a.n _ (omega (arith, e))

@@ -6,4 +6,4 @@ use Rattle.walk.specs.Run.{seek}
 use Rattle.walk.proofs.layers.find_named.Given as goal
 
 abbrev pub invariant-loop-i : goal.invariant-loop-i
-invariant-loop-i l = seek (layer_in l.bundle l.selectors) l.t l.name l.i (l.fn.n - l.i) ≡ seek (layer_in l.bundle l.selectors) l.t l.name 0 l.fn.n
+invariant-loop-i l = seek (layer_in l.tables.bundle.now l.tables.selectors.now) l.t l.name l.i (l.fn.n - l.i) ≡ seek (layer_in l.tables.bundle.now l.tables.selectors.now) l.t l.name 0 l.fn.n

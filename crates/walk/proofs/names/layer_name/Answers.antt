@@ -4,11 +4,11 @@ use Rattle.walk.proofs.names.layer_name.Goals as goal
 
 pub returns-then-word_of-ne1 : goal.returns-then-word_of-ne1
 returns-then-word_of-ne1 c = let a = c.args in
-    sym (default_layer a.bundle.now a.selectors.now a.s _ c.word_of.ensures c.if-word_of-ne1.true)
+    sym (default_layer a.tables.now.bundle.now a.tables.now.selectors.now a.s _ c.word_of.ensures c.if-word_of-ne1.true)
 
 pub returns : goal.returns
 returns c = let a = c.args in
-    named_layer a.bundle.now a.selectors.now a.s _
+    named_layer a.tables.now.bundle.now a.tables.now.selectors.now a.s _
     c.word_of.ensures
     c.if-word_of-ne1.false _ _
     c.range_of.ensures
