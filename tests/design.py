@@ -133,7 +133,7 @@ def point5():
 def point6():
     """a slice or an array with a count of its entries beside it; arrays that go side by side"""
     for f, n, sig, body in functions():
-        if re.search(r': &(mut )?\[[^\]]*\]', sig) and re.search(r'\b(n|m|count|total|k): usize', sig):
+        if re.search(r': &(mut )?(\[[^\]]*\]|Maps\b)', sig) and re.search(r'\b(n|m|count|total|k): usize', sig):
             yield f'{short(f)} {n}: a count beside a slice'
         if re.search(r'layers: &(mut )?\[i64\], zs|layers: &(mut )?\[i64\],\s*zs', sig):
             yield f'{short(f)} {n}: arrays side by side'

@@ -1,6 +1,4 @@
 -- Equality and order of byte strings: their laws, and how the library states them.
-use Prim.Native.Nat.{ℕ, ◌-◌}
-use native.Mathlib.Omega.{arith}
 use mathlib.Core.Path.{◌≡◌, refl, sym, ◌∙◌, ap, ap₂, subst}
 use mathlib.Core.Bool.{Bool, true, false, ◌&&◌, ◌||◌}
 use mathlib.Core.List.{[], ◌∷◌}
@@ -11,10 +9,9 @@ use Rattle.std.specs.Ordering.{nat_cmp, is_some_and, is_lt, partial_ordering_the
 use Rattle.std.specs.declared.cmp.Ordering.{Ordering}
 use Rattle.std.specs.declared.cmp.Ordering.TheVariants.{Less, Equal, Greater}
 use Rattle.std.specs.Prelude.{Option, Some, cond}
-use lib.ListN.{length, get_or, take, drop, drop_of_length-le}
-use lib.Seq.{take_all}
+use lib.ListN.{length}
 use Rattle.base.specs.Choice.{by-test, clash, holds}
-use Rattle.base.specs.Bytes.{Bytes, same, precedes, between}
+use Rattle.base.specs.Bytes.{Bytes, same, precedes}
 
 pub same_refl : (a : Bytes) → same a a ≡ true
 unfolding same
@@ -67,7 +64,3 @@ precedes_slices (x ∷ xs) [] = refl
 precedes_slices (x ∷ xs) (y ∷ ys) =
     first_less (ltb x y) (eqb x y) (slice_partial_cmp (λ x y. Some (nat_cmp x y)) xs ys)
     ∙ ap (λ t. ltb x y || (eqb x y && t)) (precedes_slices xs ys)
-
--- the part from a place on
-pub rest_all : (s : Bytes) (from : ℕ) → between from (length s) s ≡ drop from s
-rest_all s from = take_all (length s - from) (drop from s) (simp lib.ListN.length-drop (omega arith))

@@ -1,7 +1,8 @@
 -- What an Option or a Result is, by cases, and what two equal ones hold.
-use Rattle.std.specs.Prelude.{◌≡◌, ℕ, Option, Some, None, Result, Ok, Err, IsErr, IsErrAnd, MatchResult, is_ok, ok_or}
+use Rattle.std.specs.Prelude.{◌≡◌, Option, Some, None, Result, Ok, Err, IsErr, IsErrAnd, MatchResult, is_ok, ok_or}
 use Rattle.std.specs.Result.{result_ok}
-use Rattle.std.proofs.Common.{refl, sym, ap, subst, ◌∙◌, true≢false, arith}
+use Rattle.std.proofs.Common.{refl, sym, ap, subst, ◌∙◌, true≢false}
+use Rattle.std.proofs.lemmas.Option.{some_pair_parts}
 use Rattle.base.specs.Option.{on_option, on_option2, on_result, on_result2}
 
 -- the two cases, each with its equation
@@ -9,38 +10,20 @@ pub by_option : {A R : Type 0} (x : Option A) → (x ≡ None → R) → ((a : A
 by_option None n f = n refl
 by_option (Some a) n f = f a refl
 
-pub by_result : {A E R : Type 0} (x : Result A E) → ((e : E) → x ≡ Err e → R) → ((a : A) → x ≡ Ok a → R) → R
-by_result (Err e) g f = g e refl
-by_result (Ok a) g f = f a refl
-
 pub by_option2 : {A B R : Type 0} (x : Option (A × B)) → (x ≡ None → R) → ((a : A) (b : B) → x ≡ Some (a, b) → R) → R
 by_option2 None n f = n refl
 by_option2 (Some (a, b)) n f = f a b refl
 
 -- what is not there is not what is there
 pub none_some : {A R : Type 0} {a : A} → ◌≡◌ {A = Option A} None (Some a) → R
-none_some e = absurd (let z : ◌≡◌ {A = ℕ} 0 1 = cc in omega arith)
+none_some e = absurd (cc)
 
 -- the parts of what is there, where two are equal (a tuple is no constructor, so `cc` does not take it apart)
 pub some2_first : {A B : Type 0} {a a' : A} {b b' : B} → ◌≡◌ {A = Option (A × B)} (Some (a, b)) (Some (a', b')) → a ≡ a'
-unfolding on_option
-some2_first {a = a} e = ap (λ o. on_option o a (λ p. p.0)) e
+some2_first e = (some_pair_parts _ _ _ _ e).0
 
 pub some2_second : {A B : Type 0} {a a' : A} {b b' : B} → ◌≡◌ {A = Option (A × B)} (Some (a, b)) (Some (a', b')) → b ≡ b'
-unfolding on_option
-some2_second {b = b} e = ap (λ o. on_option o b (λ p. p.1)) e
-
-pub some3_first : {A B C : Type 0} {a a' : A} {b b' : B} {c c' : C} → ◌≡◌ {A = Option (A × B × C)} (Some (a, b, c)) (Some (a', b', c')) → a ≡ a'
-unfolding on_option
-some3_first {a = a} e = ap (λ o. on_option o a (λ p. p.0)) e
-
-pub some3_second : {A B C : Type 0} {a a' : A} {b b' : B} {c c' : C} → ◌≡◌ {A = Option (A × B × C)} (Some (a, b, c)) (Some (a', b', c')) → b ≡ b'
-unfolding on_option
-some3_second {b = b} e = ap (λ o. on_option o b (λ p. p.1)) e
-
-pub some3_third : {A B C : Type 0} {a a' : A} {b b' : B} {c c' : C} → ◌≡◌ {A = Option (A × B × C)} (Some (a, b, c)) (Some (a', b', c')) → c ≡ c'
-unfolding on_option
-some3_third {c = c} e = ap (λ o. on_option o c (λ p. p.2)) e
+some2_second e = (some_pair_parts _ _ _ _ e).1
 
 pub ok2_first : {A B E : Type 0} {a a' : A} {b b' : B} → ◌≡◌ {A = Result (A × B) E} (Ok (a, b)) (Ok (a', b')) → a ≡ a'
 unfolding on_result
@@ -50,29 +33,9 @@ pub ok2_second : {A B E : Type 0} {a a' : A} {b b' : B} → ◌≡◌ {A = Resul
 unfolding on_result
 ok2_second {b = b} e = ap (λ o. on_result o (λ _. b) (λ p. p.1)) e
 
-pub ok3_first : {A B C E : Type 0} {a a' : A} {b b' : B} {c c' : C} → ◌≡◌ {A = Result (A × B × C) E} (Ok (a, b, c)) (Ok (a', b', c')) → a ≡ a'
-unfolding on_result
-ok3_first {a = a} e = ap (λ o. on_result o (λ _. a) (λ p. p.0)) e
-
-pub ok3_second : {A B C E : Type 0} {a a' : A} {b b' : B} {c c' : C} → ◌≡◌ {A = Result (A × B × C) E} (Ok (a, b, c)) (Ok (a', b', c')) → b ≡ b'
-unfolding on_result
-ok3_second {b = b} e = ap (λ o. on_result o (λ _. b) (λ p. p.1)) e
-
 pub ok3_third : {A B C E : Type 0} {a a' : A} {b b' : B} {c c' : C} → ◌≡◌ {A = Result (A × B × C) E} (Ok (a, b, c)) (Ok (a', b', c')) → c ≡ c'
 unfolding on_result
 ok3_third {c = c} e = ap (λ o. on_result o (λ _. c) (λ p. p.2)) e
-
-pub ok4_first : {A B C D E : Type 0} {a a' : A} {b b' : B} {c c' : C} {d d' : D} → ◌≡◌ {A = Result (A × B × C × D) E} (Ok (a, b, c, d)) (Ok (a', b', c', d')) → a ≡ a'
-unfolding on_result
-ok4_first {a = a} e = ap (λ o. on_result o (λ _. a) (λ p. p.0)) e
-
-pub ok4_second : {A B C D E : Type 0} {a a' : A} {b b' : B} {c c' : C} {d d' : D} → ◌≡◌ {A = Result (A × B × C × D) E} (Ok (a, b, c, d)) (Ok (a', b', c', d')) → b ≡ b'
-unfolding on_result
-ok4_second {b = b} e = ap (λ o. on_result o (λ _. b) (λ p. p.1)) e
-
-pub ok4_third : {A B C D E : Type 0} {a a' : A} {b b' : B} {c c' : C} {d d' : D} → ◌≡◌ {A = Result (A × B × C × D) E} (Ok (a, b, c, d)) (Ok (a', b', c', d')) → c ≡ c'
-unfolding on_result
-ok4_third {c = c} e = ap (λ o. on_result o (λ _. c) (λ p. p.2)) e
 
 pub ok4_fourth : {A B C D E : Type 0} {a a' : A} {b b' : B} {c c' : C} {d d' : D} → ◌≡◌ {A = Result (A × B × C × D) E} (Ok (a, b, c, d)) (Ok (a', b', c', d')) → d ≡ d'
 unfolding on_result

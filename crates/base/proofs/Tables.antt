@@ -2,56 +2,17 @@
 use mathlib.Core.Path.{◌≡◌, refl, sym, ap, ◌∙◌}
 use mathlib.Core.List.{List, [], ◌∷◌, ◌++◌, append_assoc, append-nil}
 use mathlib.Core.Bool.{Bool, true, false}
-use Prim.Native.Nat.{ℕ, zero, suc, ◌+◌, ◌-◌, ◌*◌, ◌/◌, ◌≤◌, ◌<◌, min}
-use native.Mathlib.Nat.{sub_self, add-zero, sub-zero}
-use native.Mathlib.Numerals.{add-one}
+use Prim.Native.Nat.{ℕ, suc, ◌+◌, ◌-◌, ◌*◌, ◌/◌, ◌≤◌, ◌<◌, min}
+use native.Mathlib.Nat.{sub-zero}
 use native.Mathlib.Omega.{arith}
 use lib.Dec.{leb}
-use lib.ListN.{get_or, drop_of_length-le, length, replicate, set, take, drop, length-append, length-replicate, length-set, length-take, length-drop, take-append-drop}
+use lib.ListN.{drop_of_length-le, length, replicate, set, take, drop, length-append, length-set, length-take, length-drop, take-append-drop}
 use borrow.Author.Tests.{leb-true, leb-false}
 use Rattle.std.proofs.lemmas.List.{set_past}
-use lib.Seq.{set_at, drop-cons}
+use lib.Seq.{set_at}
 use Rattle.base.specs.Table.{padded, stored, flat, capacity_of}
 
 module _ {A : Type 0} where
-  replicate_snoc : (n : ℕ) (z : A) (r : List A) → replicate n z ++ z ∷ r ≡ z ∷ (replicate n z ++ r)
-  replicate_snoc zero z r = refl
-  replicate_snoc (suc n) z r = ap (◌∷◌ z) (replicate_snoc n z r)
-
-  -- clearing, on its way: the first i elements are z, the rest as they were
-  pub record Cleared (z : A) (t₀ t : List A) (i : ℕ) : Type 0 where
-    pub in_table : i ≤ length t₀
-    pub same_length : length t ≡ length t₀
-    pub is : t ≡ replicate i z ++ drop i t₀
-
-  pub cleared_start : (z : A) (t : List A) → Cleared z t t 0
-  cleared_start z t = record { in_table = omega arith; same_length = refl; is = refl }
-
-  pub cleared_more : (z : A) (t₀ t : List A) (i : ℕ) → Cleared z t₀ t i → i < length t → Cleared z t₀ (set t i z) (i + 1)
-  cleared_more z t₀ t i c h =
-      let l = c.same_length in
-      let g : i < length t₀ = omega arith in
-      record {
-        in_table = omega arith;
-        same_length = length-set t i z ∙ l;
-        is =
-            ap (λ (u : List A). set u i z) c.is
-            ∙ rw (add-one, drop-cons t₀ i z)
-            (set_at (replicate i z) (get_or t₀ i z) (drop (suc i) t₀) z i (length-replicate i z)
-            ∙ replicate_snoc i z (drop (suc i) t₀));
-      }
-
-  pub cleared_all : (z : A) (t₀ t : List A) (i : ℕ) → Cleared z t₀ t i → length t ≤ i → t ≡ replicate (length t₀) z
-  cleared_all z t₀ t i c h =
-      let l = c.same_length in
-      let g = c.in_table in
-      let n : i ≡ length t₀ = omega arith in
-      let m : length t₀ ≤ i = omega arith in
-      c.is
-      ∙ ap (λ (r : List A). replicate i z ++ r) (drop_of_length-le t₀ m)
-      ∙ append-nil (replicate i z)
-      ∙ ap (λ (k : ℕ). replicate k z) n
-
   -- a table with no entry is all filler
   pub padded_none : (z : A) (len : ℕ) → padded z len [] ≡ replicate len z
   padded_none z len = rw (sub-zero len)
@@ -159,16 +120,6 @@ module _ {A : Type 0} where
   flat_append [] fs = refl
   flat_append (e ∷ es) fs = ap (λ (r : List A). e ++ r) (flat_append es fs) ∙ sym (append_assoc e (flat es) (flat fs))
 
-  -- entries of one stride fill so many elements
-  pub length_flat :
-      (k : ℕ) (es : List (List A))
-      → ((i : ℕ) → i < length es → length (get_or es i []) ≡ k)
-      → length (flat es) ≡ length es * k
-  length_flat k [] h = sym (native.Mathlib.Nat.zero-mul k)
-  length_flat k (e ∷ es) h =
-      length-append e (flat es)
-      ∙ omega (arith, h 0 (omega arith), length_flat k es (λ i p. h (suc i) (omega arith)), native.Mathlib.Nat.suc-mul (length es) k)
-
   -- a store at the count adds one entry, at any stride
   pub padded_entry :
       (z : A) (len k n : ℕ) (es : List (List A)) (e : List A)
@@ -179,12 +130,6 @@ module _ {A : Type 0} where
   padded_entry z len k n es e p q h =
       padded_stored z len (flat es) (n * k) e p (omega arith)
       ∙ ap (padded z len) (sym (flat_append es (e ∷ []) ∙ ap (λ (r : List A). flat es ++ r) (append-nil e)))
-
-  -- within a list the default does not matter
-  pub get_d_within : (l : List A) (i : ℕ) (d e : A) → i < length l → get_or l i d ≡ get_or l i e
-  get_d_within [] i d e h = absurd (omega arith)
-  get_d_within (x ∷ l) zero d e h = refl
-  get_d_within (x ∷ l) (suc i) d e h = get_d_within l i d e (omega arith)
 
 -- capacity as the code finds it
 pub capacity_none : (stride len : ℕ) → stride ≡ 0 → 0 ≡ capacity_of stride len

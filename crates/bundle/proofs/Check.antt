@@ -1,8 +1,8 @@
--- The layout of a bundle, as the code tests it, and reading as the inverse of writing.
+-- Reading a bundle is the inverse of writing it.
 use Prim.Native.Nat.{ℕ, ◌<◌, ◌≤◌}
 use native.Mathlib.Omega.{arith}
 use mathlib.Core.Path.{◌≡◌, refl, sym, ◌∙◌, ap, ap₂}
-use mathlib.Core.Bool.{Bool, true, false}
+use mathlib.Core.Bool.{true, false}
 use mathlib.Core.List.{[], ◌++◌, map, append-nil}
 use lib.Dec.{eqb, ltb}
 use lib.ListN.{length, drop, length-append, length-drop, length-map}
@@ -10,78 +10,28 @@ use borrow.Author.Tests.{eq-eqb, ne_eqb, lt-ltb, le-ltb, eqb-true, eqb-false, lt
 use Rattle.base.specs.Bytes.{Bytes, AllBytes}
 use Rattle.base.specs.Choice.{pick, by-test, clash}
 use Rattle.base.specs.Map.{Map, key_of}
-use Rattle.base.specs.Refusal.{refusal}
-use Rattle.base.specs.declared.refusal.Refusal.{Refusal}
 use Rattle.group.specs.Number.{number_at, group_of}
-use Rattle.group.specs.Pair.{pairs_at, skip_of, entries_at, named, all_utf8, map_bytes}
+use Rattle.group.specs.Pair.{pairs_at, skip_of, entries_at, named, map_bytes}
 use Rattle.group.proofs.Numbers.{number_read_at, number_written_at, number_most}
 use Rattle.group.proofs.Runs.{AllShort, all_short, pairs_read, pairs_written, pairs_all, skip_within}
-use Rattle.bundle.specs.Bundle.{count_of, first_at, texts_of, good_names, is_bundle, check_of, bundle_bytes, IsTexts}
-use Rattle.std.specs.Option.{option_eq}
-use Rattle.std.specs.Prelude.{Option, Some, None, Ok, Err}
+use Rattle.bundle.specs.Bundle.{count_of, first_at, texts_of, good_names, is_bundle, bundle_bytes, IsTexts}
+use Rattle.std.specs.Prelude.{Some}
 use Rattle.base.specs.Option.{on_option}
 use Rattle.base.proofs.Options.{by_option, by_option2}
 
--- whether an option is a number, as the library tests it
-found_there : (o : Option ℕ) (n : ℕ) → option_eq eqb o (Some n) ≡ true → o ≡ Some n
-found_there None n e = clash e refl
-found_there (Some x) n e = ap Some (eqb-true x n e)
+pub bundle_long : (s : Bytes) → 1048576 < length s → false ≡ is_bundle s
+unfolding is_bundle pick
+bundle_long s h = rw (lt-ltb _ _ h)
 
-module _ (s : Bytes) where
-  pub bundle_long : 1048576 < length s → false ≡ is_bundle s
-  unfolding is_bundle pick
-  bundle_long h = rw (lt-ltb _ _ h)
-
-  module _ (l : length s ≤ 1048576) where
-    pub bundle_none : count_of s ≡ 0 → false ≡ is_bundle s
-    unfolding is_bundle pick
-    bundle_none z = rw (le-ltb _ _ l, eq-eqb _ _ z)
-
-    module _ (c : count_of s ≡ 0 → ⊥) where
-      bundle_cut : skip_of (count_of s) s (first_at s) ≡ None → false ≡ is_bundle s
-      unfolding is_bundle pick on_option
-      bundle_cut e = rw (le-ltb _ _ l, ne_eqb _ _ c, e)
-
-      bundle_over : (end : ℕ) → skip_of (count_of s) s (first_at s) ≡ Some end → (end ≡ length s → ⊥) → false ≡ is_bundle s
-      unfolding is_bundle pick on_option
-      bundle_over end e d = rw (le-ltb _ _ l, ne_eqb _ _ c, e, ne_eqb _ _ d)
-
-      bundle_names : skip_of (count_of s) s (first_at s) ≡ Some (length s) → good_names (map key_of (texts_of s)) ≡ is_bundle s
-      unfolding is_bundle pick on_option
-      bundle_names e = rw (le-ltb _ _ l, ne_eqb _ _ c, e, eq-eqb (length s) _ refl)
-
-      module _ (o : Option ℕ) (t : Bool) (w : o ≡ skip_of (count_of s) s (first_at s)) (e : t ≡ option_eq eqb o (Some (length s))) where
-        pub bundle_there : t ≡ true → good_names (map key_of (texts_of s)) ≡ is_bundle s
-        bundle_there h = bundle_names (sym w ∙ found_there o (length s) (sym e ∙ h))
-
-        pub bundle_elsewhere : t ≡ false → t ≡ is_bundle s
-        bundle_elsewhere h =
-            h
-            ∙ by_option o
-            (λ x. bundle_cut (sym w ∙ x))
-            (λ end x. bundle_over end (sym w ∙ x) (λ d. clash (ap (λ y. option_eq eqb y (Some (length s))) x ∙ eq-eqb end (length s) d) (sym e ∙ h)))
-
-module _ (s : Bytes) (t : Bool) (e : t ≡ is_bundle s) where
-  pub check_layout : (r : Refusal) → t ≡ false → r ≡ refusal 1 0 0 0 0 → Err r ≡ check_of s
-  unfolding check_of pick
-  check_layout r h q = let g : is_bundle s ≡ false = sym e ∙ h in rw g (ap Err q)
-
-  module _ (h : t ≡ true) (u : Bool) (d : u ≡ all_utf8 (texts_of s)) where
-    pub check_utf8 : (r : Refusal) → u ≡ false → r ≡ refusal 2 0 0 0 0 → Err r ≡ check_of s
-    unfolding check_of pick
-    check_utf8 r v w =
-        let g : is_bundle s ≡ true = sym e ∙ h in
-        let x : all_utf8 (texts_of s) ≡ false = sym d ∙ v in
-        rw (g, x) (ap Err w)
-
-    pub check_texts : u ≡ true → Ok (count_of s) ≡ check_of s
-    unfolding check_of pick
-    check_texts v =
-        let g : is_bundle s ≡ true = sym e ∙ h in
-        let x : all_utf8 (texts_of s) ≡ true = sym d ∙ v in
-        rw (g, x)
-
--- Reading what was written.
+-- a bundle of some texts that end where it ends is one if their names are good
+bundle_names :
+    (s : Bytes)
+    → length s ≤ 1048576
+    → (count_of s ≡ 0 → ⊥)
+    → skip_of (count_of s) s (first_at s) ≡ Some (length s)
+    → good_names (map key_of (texts_of s)) ≡ is_bundle s
+unfolding is_bundle pick on_option
+bundle_names s l c e = rw (le-ltb _ _ l, ne_eqb _ _ c, e, eq-eqb (length s) _ refl)
 
 -- what was read of a bundle that was written
 module _ (m : Map Bytes) (t : IsTexts m) where

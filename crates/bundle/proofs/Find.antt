@@ -37,7 +37,7 @@ module _ (s name : Bytes) where
 
   numbered_in : (j k : ℕ) (r : Range) (ps : List Ranges) → find_in s name j ps ≡ Some (k, r) → Numbered ps j k r
   unfolding find_in nth_of pick
-  numbered_in j k r [] e = absurd (let z : ◌≡◌ {A = ℕ} 0 1 = cc in omega arith)
+  numbered_in j k r [] e = absurd (cc)
   numbered_in j k r (p ∷ ps) e =
       by-test (same name (within p.0 s))
       (λ t.

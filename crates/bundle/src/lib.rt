@@ -11,6 +11,7 @@ use base::refusal::Refusal;
 use group::Pairs;
 
 // Checks the layout (refusal 1), then the UTF-8 of names and texts (refusal 2).
+#[tactic(auto, unfolding(base::specs::Choice::pick, crate::specs::Bundle::check_of, crate::specs::Bundle::texts_of))]
 pub fn check_bundle(bundle: &[u8]) -> Result<usize, Refusal>
     ensures { result ≡ check_of bundle.now }
 {
@@ -44,16 +45,16 @@ pub fn find_text(bundle: &[u8], name: &[u8]) -> Option<(usize, Range)>
 }
 
 // The names and texts of the bundle, as many as it says that it holds; none where it does not say so.
+#[tactic(auto, unfolding(crate::specs::Bundle::count_of, crate::specs::Bundle::first_at, base::specs::Option::on_option))]
 fn texts(bundle: &[u8]) -> Pairs<'_>
     ensures { result ≡ record { s = bundle.entry; at = first_at bundle.now; count = count_of bundle.now } }
 {
-    match group::number_at(bundle, 0, 64) {
-        None => Pairs::new(bundle, 0, 0),
-        Some((count, first)) => Pairs::new(bundle, first, count as usize),
-    }
+    let (count, first) = group::number_at(bundle, 0, 64).unwrap_or((0, 0));
+    Pairs::new(bundle, first, count as usize)
 }
 
 // Whether the bytes are laid out as a bundle.
+#[tactic(auto, unfolding(base::specs::Choice::pick, crate::specs::Bundle::is_bundle, crate::specs::Bundle::texts_of, group::specs::Pair::entries_at, base::specs::Option::on_option))]
 fn is_bundle(bundle: &[u8]) -> bool
     ensures { result ≡ is_bundle bundle.now }
 {
@@ -78,6 +79,7 @@ fn good_names(s: &[u8], texts: Pairs) -> bool
 }
 
 // Whether a name has 1 to 255 bytes and is none of those further on.
+#[tactic(auto, unfolding(crate::specs::Bundle::good_name, base::specs::Choice::pick))]
 fn good_name(s: &[u8], name: &[u8], rest: Pairs) -> bool
     ensures { result ≡ good_name name.now (map key_of (map (named s.now) (pairs_left rest.entry))) }
 {

@@ -1,9 +1,8 @@
 -- Laws of the canvas colour, one for each way through the code, over plain lists and numbers.
-use Prim.Native.Nat.{ℕ, suc, ◌+◌, ◌-◌, ◌≤◌, ◌<◌}
-use native.Mathlib.Omega.{arith}
+use Prim.Native.Nat.{ℕ, zero, suc, ◌+◌, ◌-◌, ◌≤◌, ◌<◌}
 use mathlib.Core.Path.{◌≡◌, refl, sym, ◌∙◌, ap}
 use mathlib.Core.Bool.{Bool, true, false}
-use mathlib.Core.List.{List, [], ◌∷◌}
+use mathlib.Core.List.{List}
 use lib.Ieee.{Float}
 use lib.ListN.{length}
 use lib.Dec.{eqb}
@@ -12,7 +11,7 @@ use Rattle.base.specs.Bytes.{Bytes, same, within}
 use Rattle.base.specs.Choice.{pick, by-test, via, if_true, if_false}
 use Rattle.table.specs.Kind.{object_kind}
 use Rattle.table.specs.declared.kind.ObjectKind.{ObjectKind}
-use Rattle.table.specs.declared.kind.ObjectKind.TheVariants.{All, Canvas, Meta, Node, Way, Area}
+use Rattle.table.specs.declared.kind.ObjectKind.TheVariants.{Canvas}
 use Rattle.base.specs.Refusal.{refusal}
 use Rattle.base.specs.declared.refusal.Refusal.{Refusal}
 use Rattle.base.specs.declared.Range.{Range}
@@ -21,23 +20,12 @@ use Rattle.table.specs.declared.PropertyValue.{PropertyValue}
 use Rattle.valid.specs.Valid.{tables_sound}
 use Rattle.valid.specs.declared.Counts.{Counts}
 use Rattle.decode.specs.Decode.{name_at, places, places_in}
+use Rattle.decode.proofs.Places.{places_step, places_end}
+use Rattle.std.specs.List.{list_any, range_with_len}
 use Rattle.style.specs.declared.StyleType.{StyleType}
 use Rattle.canvas.specs.Canvas.{or_color, shade_of, color_at, first_color, any_canvas, rule_color, rules_color, canvas_name, canvas_of}
 use Rattle.std.specs.Prelude.{Option, None, Ok, Err}
 use Rattle.color.specs.declared.Color.{Color}
-
--- ---- what is left of from..to at k
-
-none_left : {A : Type 0} (g : List ℕ → A) (to k : ℕ) → to ≤ k → g [] ≡ g (places k (to - k))
-unfolding places
-none_left g to k h = let z : to - k ≡ 0 = omega arith in rw z
-
-one_left : {A : Type 0} (g : List ℕ → A) (to k : ℕ) → k < to → g (k ∷ places (k + 1) (to - (k + 1))) ≡ g (places k (to - k))
-unfolding places
-one_left g to k h = let z : to - k ≡ suc (to - (k + 1)) = omega arith in ap (λ n. g (places k n)) (sym z)
-
-pub all_left : {A : Type 0} (g : List ℕ → A) (n : ℕ) → g (places 0 (n - 0)) ≡ g (places 0 n)
-all_left g n = let z : n - 0 ≡ n = omega arith in rw z
 
 -- ---- the first colour
 
@@ -47,7 +35,7 @@ or_is r x k d e q = ap (λ y. or_color y d) (sym q ∙ e)
 module _ (bundle : Bytes) (properties : List ℕ) (numbers : List Float) (name : Bytes) (to p : ℕ) where
   pub colors_end : to ≤ p → None ≡ first_color bundle properties numbers name (places p (to - p))
   unfolding first_color
-  colors_end h = none_left (first_color bundle properties numbers name) to p h
+  colors_end h = ap (first_color bundle properties numbers name) (sym (places_end p to h))
 
   module _ (h : p < to) (r : Option Color) (e : r ≡ color_at bundle properties numbers name p) where
     pub colors_step :
@@ -56,7 +44,7 @@ module _ (bundle : Bytes) (properties : List ℕ) (numbers : List Float) (name :
         → or_color k (first_color bundle properties numbers name (places (p + 1) (to - (p + 1))))
         ≡ first_color bundle properties numbers name (places p (to - p))
     unfolding first_color
-    colors_step k q = or_is r _ k _ e q ∙ one_left (first_color bundle properties numbers name) to p h
+    colors_step k q = or_is r _ k _ e q ∙ ap (first_color bundle properties numbers name) (sym (places_step p to h))
 
 module _ (bundle : Bytes) (rules selectors properties : List ℕ) (numbers : List Float) (name : Bytes) where
   abbrev among : List ℕ → Option Color
@@ -64,7 +52,7 @@ module _ (bundle : Bytes) (rules selectors properties : List ℕ) (numbers : Lis
 
   pub rules_end : (total i : ℕ) → total ≤ i → None ≡ among (places i (total - i))
   unfolding rules_color
-  rules_end total i h = none_left among total i h
+  rules_end total i h = ap among (sym (places_end i total h))
 
   pub rules_step :
       (total i : ℕ)
@@ -74,7 +62,7 @@ module _ (bundle : Bytes) (rules selectors properties : List ℕ) (numbers : Lis
       → r ≡ k
       → or_color k (among (places (i + 1) (total - (i + 1)))) ≡ among (places i (total - i))
   unfolding rules_color
-  rules_step total i h r k e q = or_is r _ k _ e q ∙ one_left among total i h
+  rules_step total i h r k e q = or_is r _ k _ e q ∙ ap among (sym (places_step i total h))
 
   -- the ranges of a rule
   module _ (i : ℕ) (a : Range) (p : a ≡ range_at rules i 1) (t : Bool) (e : t ≡ any_canvas selectors (places_in a)) where
@@ -96,12 +84,8 @@ module _ (bundle : Bytes) (rules selectors properties : List ℕ) (numbers : Lis
 -- ---- one of several selectors
 
 canvas_kind : ObjectKind → Bool
-canvas_kind All = false
 canvas_kind Canvas = true
-canvas_kind Meta = false
-canvas_kind Node = false
-canvas_kind Way = false
-canvas_kind Area = false
+canvas_kind k = false
 
 -- of all kinds 2 alone is `canvas`
 kind_is : (k : ℕ) → canvas_kind (object_kind k) ≡ eqb k 2
@@ -125,26 +109,16 @@ module _ (k : ℕ) (r : ObjectKind) (e : r ≡ object_kind k) where
   canvas_other h = other r h ∙ ap canvas_kind e ∙ kind_is k
     where
       other : (r : ObjectKind) → (r ≡ Canvas → ⊥) → false ≡ canvas_kind r
-      other All h = refl
       other Canvas h = absurd (h refl)
-      other Meta h = refl
-      other Node h = refl
-      other Way h = refl
-      other Area h = refl
+      other r h = refl
 
-module _ (selectors : List ℕ) (to s : ℕ) where
-  pub canvas_end : to ≤ s → false ≡ any_canvas selectors (places s (to - s))
-  unfolding any_canvas
-  canvas_end h = none_left (any_canvas selectors) to s h
-
-  module _ (h : s < to) (b : Bool) (e : b ≡ eqb (word_at selectors s 0) 2) where
-    pub canvas_found : b ≡ true → true ≡ any_canvas selectors (places s (to - s))
-    unfolding any_canvas
-    canvas_found y = if_true _ true _ (via e y) refl ∙ one_left (any_canvas selectors) to s h
-
-    pub canvas_next : b ≡ false → any_canvas selectors (places (s + 1) (to - (s + 1))) ≡ any_canvas selectors (places s (to - s))
-    unfolding any_canvas
-    canvas_next y = if_false _ true _ (via e y) refl ∙ one_left (any_canvas selectors) to s h
+pub canvas_among :
+    (selectors : List ℕ) (a n : ℕ)
+    → list_any (λ s. eqb (word_at selectors s 0) 2) (range_with_len a n) ≡ any_canvas selectors (places a n)
+unfolding any_canvas places pick
+canvas_among selectors a zero = refl
+canvas_among selectors a (suc n) =
+    by-test (eqb (word_at selectors a 0) 2) (λ e. rw e) (λ e. rw (e, canvas_among selectors (a + 1) n))
 
 -- ---- one property
 

@@ -13,9 +13,9 @@ use Rattle.base.specs.Map.{Entry}
 use Rattle.color.specs.declared.Color.{Color}
 use Rattle.sheet.specs.Sheet.{all, canvas, meta, node, way, area, Value}
 use Rattle.table.specs.Value.{word_at, range_at, value_at}
-use Rattle.table.specs.declared.Name.TheVariants.{Plain, Joined}
+use Rattle.table.specs.declared.Name.TheVariants.{Plain}
 use Rattle.table.specs.declared.PropertyValue.{PropertyValue}
-use Rattle.table.specs.declared.PropertyValue.TheVariants.{NoValue, Identifier, Text, Shade, Numbers, WidthDelta}
+use Rattle.table.specs.declared.PropertyValue.TheVariants.{Identifier}
 use Rattle.cascade.specs.Map.{or_else}
 use Rattle.cascade.specs.Clause.{Clause, clause, clauses}
 use Rattle.cascade.specs.Style.{named_color}
@@ -70,13 +70,8 @@ kind_shown k =
 module _ (bundle : Bytes) (τ : Lent) (name : Bytes) where
   value_shown_lem : (v : PropertyValue) → named_color (shade_of v) ≡ color_value (value_of bundle τ v)
   unfolding named_color shade_of
-  value_shown_lem NoValue = refl
   value_shown_lem (Identifier (Plain a)) = refl
-  value_shown_lem (Identifier (Joined a b)) = refl
-  value_shown_lem (Text a) = refl
-  value_shown_lem (Shade c) = refl
-  value_shown_lem (Numbers r) = refl
-  value_shown_lem (WidthDelta x) = refl
+  value_shown_lem v = refl
 
   abbrev first : List ℕ → Option Color
   first = first_color bundle τ.properties τ.numbers name

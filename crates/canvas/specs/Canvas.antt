@@ -6,7 +6,7 @@ use Rattle.base.specs.Choice.{pick}
 use Rattle.base.specs.Refusal.{refusal}
 use Rattle.table.specs.Value.{word_at, range_at, value_at}
 use Rattle.table.specs.declared.PropertyValue.{PropertyValue}
-use Rattle.table.specs.declared.PropertyValue.TheVariants.{NoValue, Identifier, Text, Shade, Numbers, WidthDelta}
+use Rattle.table.specs.declared.PropertyValue.TheVariants.{Shade}
 use Rattle.valid.specs.Valid.{tables_sound}
 use Rattle.valid.specs.declared.Counts.{Counts}
 use Rattle.decode.specs.Decode.{name_at, places, places_in}
@@ -26,12 +26,8 @@ or_color (Some c) d = Some c
 
 -- a colour value, not a colour's name
 unfoldable pub shade_of : PropertyValue → Option Color
-shade_of NoValue = None
-shade_of (Identifier n) = None
-shade_of (Text a) = None
 shade_of (Shade c) = Some c
-shade_of (Numbers r) = None
-shade_of (WidthDelta x) = None
+shade_of v = None
 
 module _ (bundle : Bytes) (properties : List ℕ) (numbers : List Float) (name : Bytes) where
   unfoldable pub color_at : ℕ → Option Color

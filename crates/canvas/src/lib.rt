@@ -54,12 +54,7 @@ fn rule_color(tables: &Tables, name: &[u8], r: usize) -> Option<Color>
 fn any_canvas(selectors: &[u32], range: Range) -> bool
     ensures { result ≡ any_canvas selectors.now (places_in range) }
 {
-    for s in range.from..range.to {
-        if is_canvas(selectors, s) {
-            return true;
-        }
-    }
-    false
+    (range.from..range.to).any(|s| is_canvas(selectors, s))
 }
 
 fn is_canvas(selectors: &[u32], s: usize) -> bool

@@ -39,6 +39,7 @@ use parser::load;
 use settings::{counts_at, settings_of, type_of};
 use style_rows::store_layers;
 use table::Tables;
+use walk::maps::Maps;
 use walk::property_maps;
 
 pub fn mapcss_load(
@@ -66,7 +67,7 @@ pub fn mapcss_property_maps(
     counts: &[u64],
     zoom: u8,
     entity: &[u8],
-    maps: &mut [u32; 4323],
+    maps: &mut Maps,
     out: &mut [u64],
 ) -> u64
     ensures { MapsAnswered (maps_of bundle.now rules.now selectors.now tests.now properties.now numbers.now (counts_at counts.now) zoom entity.now) result maps.new out.old out.new }

@@ -27,9 +27,10 @@
 #![tactic(auto)]
 
 ghost use Rattle.std.specs.Prelude.{◌≡◌};
+ghost use Rattle.base.specs.Table.{zero_float};
 ghost use Rattle.cursor.specs.Cursor.{cursor};
 ghost use Rattle.token.specs.Step.{step_of};
-ghost use Rattle.capi_token.specs.Told.{Answered, told_step, told_token, ranged, flag, present, height, numbered, payload, words};
+ghost use Rattle.capi_token.specs.Told.{Answered, told_step, told_token, ranged, plain, flag, present, height, numbered, words};
 
 use answer_words::store_words;
 use base::{Range, store};
@@ -79,6 +80,7 @@ pub fn mapcss_next_token(
     payload.kind
 }
 
+#[tactic(auto, unfolding(crate::specs::Told::told_step))]
 fn told_step(step: Result<Step, LexerError>) -> Told
     ensures { result ≡ told_step step }
 {
@@ -92,13 +94,13 @@ fn told_step(step: Result<Step, LexerError>) -> Told
             },
             line: 0,
             character: 0,
-            payload: words_of(1, e.reason as u64, e.line as u64, e.character as u64, 0),
+            payload: words_of(1, [e.reason as u64, e.line as u64, e.character as u64, 0]),
         },
         Ok(Step::End(end)) => Told {
             end,
             line: 0,
             character: 0,
-            payload: words_of(0, 0, 0, 0, 0),
+            payload: plain(0),
         },
         Ok(Step::Took(token, line, character, end)) => Told {
             end,
@@ -109,6 +111,7 @@ fn told_step(step: Result<Step, LexerError>) -> Told
     }
 }
 
+#[tactic(auto, unfolding(crate::specs::Told::told_token))]
 fn told_token(token: Token) -> Payload
     ensures { result ≡ told_token token }
 {
@@ -119,47 +122,50 @@ fn told_token(token: Token) -> Payload
         Token::Number(x) => numbered(5, x),
         Token::ZoomRange(min, max) => words_of(
             6,
-            present(min),
-            height(min),
-            present(max),
-            height(max),
+            [present(min), height(min), present(max), height(max)],
         ),
         Token::ColorRef(r) => ranged(7, r),
-        Token::Color(c) => words_of(8, c.r as u64, c.g as u64, c.b as u64, 0),
-        Token::LeftParen => words_of(9, 0, 0, 0, 0),
-        Token::RightParen => words_of(10, 0, 0, 0, 0),
-        Token::LeftBracket => words_of(11, 0, 0, 0, 0),
-        Token::RightBracket => words_of(12, 0, 0, 0, 0),
-        Token::LeftBrace => words_of(13, 0, 0, 0, 0),
-        Token::RightBrace => words_of(14, 0, 0, 0, 0),
-        Token::Equal => words_of(15, 0, 0, 0, 0),
-        Token::NotEqual => words_of(16, 0, 0, 0, 0),
-        Token::Less => words_of(17, 0, 0, 0, 0),
-        Token::Greater => words_of(18, 0, 0, 0, 0),
-        Token::LessOrEqual => words_of(19, 0, 0, 0, 0),
-        Token::GreaterOrEqual => words_of(20, 0, 0, 0, 0),
-        Token::RegexMatch => words_of(21, 0, 0, 0, 0),
-        Token::Bang => words_of(22, 0, 0, 0, 0),
-        Token::QuestionMark => words_of(23, 0, 0, 0, 0),
-        Token::Colon => words_of(24, 0, 0, 0, 0),
-        Token::DoubleColon => words_of(25, 0, 0, 0, 0),
-        Token::SemiColon => words_of(26, 0, 0, 0, 0),
-        Token::Comma => words_of(27, 0, 0, 0, 0),
+        Token::Color(c) => words_of(8, [u64::from(c.r), u64::from(c.g), u64::from(c.b), 0]),
+        Token::LeftParen => plain(9),
+        Token::RightParen => plain(10),
+        Token::LeftBracket => plain(11),
+        Token::RightBracket => plain(12),
+        Token::LeftBrace => plain(13),
+        Token::RightBrace => plain(14),
+        Token::Equal => plain(15),
+        Token::NotEqual => plain(16),
+        Token::Less => plain(17),
+        Token::Greater => plain(18),
+        Token::LessOrEqual => plain(19),
+        Token::GreaterOrEqual => plain(20),
+        Token::RegexMatch => plain(21),
+        Token::Bang => plain(22),
+        Token::QuestionMark => plain(23),
+        Token::Colon => plain(24),
+        Token::DoubleColon => plain(25),
+        Token::SemiColon => plain(26),
+        Token::Comma => plain(27),
     }
 }
 
 fn ranged(kind: u64, r: Range) -> Payload
     ensures { result ≡ ranged kind r }
 {
-    words_of(kind, r.from as u64, r.to as u64, 0, 0)
+    words_of(kind, [r.from as u64, r.to as u64, 0, 0])
 }
 
-fn words_of(kind: u64, a: u64, b: u64, c: u64, d: u64) -> Payload
-    ensures { result ≡ payload kind a b c d }
+fn plain(kind: u64) -> Payload
+    ensures { result ≡ plain kind }
+{
+    words_of(kind, [0; 4])
+}
+
+fn words_of(kind: u64, four: [u64; 4]) -> Payload
+    ensures { result ≡ record { kind = kind; words = four; number = zero_float } }
 {
     Payload {
         kind,
-        words: [a, b, c, d],
+        words: four,
         number: 0.0,
     }
 }

@@ -1,18 +1,17 @@
 -- The drawing list is a permutation of the entries, sorted and stable; the Rust's merge of two sorted lists gives it; no NaN comes to be sorted.
-use Prim.Native.Nat.{ℕ, suc, ◌+◌, ◌*◌, compare, Ordering}
+use Prim.Native.Nat.{ℕ, suc, ◌+◌, compare, Ordering}
 use native.Mathlib.Omega.{arith}
-use Rattle.std.proofs.Common.{add_comm, sym, ◌∙◌, ap₂, subst, eqb-true, eq-eqb, ne_eqb, ltb-true, ltb-false, leb-true, leb-false, le-leb}
+use Rattle.std.proofs.Common.{sym, ◌∙◌, ap₂, eqb-true, ne_eqb, ⊎_elim, leb-true, leb-false, le-leb}
 use Rattle.std.proofs.Math.Path.{◌≡◌, refl, ap}
-use Rattle.std.specs.Prelude.{◌↔◌, Bool, true, false, ◌&&◌, ◌||◌, not, cond, eqb, leb, ltb, ℤ, pos, negsuc, Float}
+use Rattle.std.specs.Prelude.{◌↔◌, Bool, true, false, ◌&&◌, ◌||◌, not, cond, eqb, leb, ℤ, pos, negsuc, Float}
 use Rattle.std.specs.Bool.{beq}
-use Rattle.std.proofs.Math.Bool.{and-true, and_comm}
 use mathlib.Core.List.{List, [], ◌∷◌, ◌++◌, append_assoc}
-use Rattle.std.proofs.Math.Dec.{T, is_le}
+use Rattle.std.proofs.Math.Dec.{is_le}
 use Rattle.std.proofs.Math.ListN.{length}
-use Rattle.std.specs.Float.{nan, inf, fin}
-use Rattle.std.specs.Float.Ieee.{below, level, lt, eq, up, down, is_nan, of_int, neg}
+use Rattle.std.specs.Float.Ieee.{lt, eq, is_nan, of_int, neg}
 use Rattle.std.proofs.lemmas.Bool.{eqb-false, lt-leb, not-true}
-use Rattle.base.specs.Choice.{by-test, clash, or_left, or_right}
+use Rattle.std.proofs.lemmas.Float.{eq-not_lt, eq_flip, le_of_not-lt, lt-or-eq, T_from_true, T_from_false}
+use Rattle.base.specs.Choice.{by-test, clash, different, holds, or_left, or_right}
 use Rattle.base.specs.Map.{Map}
 use Rattle.base.specs.Entity.{Entity}
 use Rattle.base.specs.Refusal.{of_entity}
@@ -67,16 +66,13 @@ unfolding All
 all_append p [] ys a b = b
 all_append p (x ∷ xs) ys a b = (a.0, all_append p xs ys a.1 b)
 
-pub declined_entries : {A : Type 0} (r : Refusal) (ds : List Drawn) → declined r ≡ entries ds → A
-declined_entries r ds p = let z : ◌≡◌ {A = ℕ} 0 1 = cc in absurd (omega arith)
-
 pub joined :
     (f : List Drawn → List Drawn → List Drawn) (a b : Drawing) (ds : List Drawn)
     → join f a b ≡ entries ds
     → (xs : List Drawn) × (ys : List Drawn) × (a ≡ entries xs) × (b ≡ entries ys) × (ds ≡ f xs ys)
 unfolding join
-joined f (declined r) b ds p = declined_entries r ds p
-joined f (entries xs) (declined r) ds p = declined_entries r ds p
+joined f (declined r) b ds p = different cc
+joined f (entries xs) (declined r) ds p = different cc
 joined f (entries xs) (entries ys) ds p = (xs, ys, refl, refl, cc)
 
 module _ (mp : Bool) (s : Settings) where
@@ -93,10 +89,10 @@ module _ (mp : Bool) (s : Settings) where
 
   entity_shown : (i : ℕ) (e : Entity) (a : Answer Value) (ds : List Drawn) → entity_drawing mp s i e a ≡ entries ds → All no_nan ds
   unfolding entity_drawing
-  entity_shown i e (refused n) ds p = declined_entries (of_entity n mp i) ds p
+  entity_shown i e (refused n) ds p = different cc
   entity_shown i e (layers v) ds p =
       by-test (some_nan (styles s e v))
-      (λ h. declined_entries (of_entity 9 mp i) ds (rw h at p))
+      (λ h. let q = rw h at p in different cc)
       (λ h.
       let q = rw h at p in
       let r : drawn_from mp i e 0 (styles s e v) ≡ ds = cc in
@@ -177,7 +173,7 @@ module _ (mp : Bool) (s : Settings) (z : ℕ) (rs : List (Rule Value)) where
   declining i e es r (entries xs) p ih h = go (stream mp s z rs (suc i) es) refl
     where
       go : (d : Drawing) → stream mp s z rs (suc i) es ≡ d → Declines mp s z rs i (e ∷ es) r
-      go (entries ys) q = let x = rw (p, q) at h in let w : ◌≡◌ {A = ℕ} 0 1 = cc in absurd (omega arith)
+      go (entries ys) q = let x = rw (p, q) at h in different cc
       go (declined q') q =
           let x = rw (p, q) at h in
           let y : q' ≡ r = cc in
@@ -185,7 +181,7 @@ module _ (mp : Bool) (s : Settings) (z : ℕ) (rs : List (Rule Value)) where
 
   pub declined_first : (i : ℕ) (es : List Entity) (r : Refusal) → stream mp s z rs i es ≡ declined r → Declines mp s z rs i es r
   unfolding stream
-  declined_first i [] r h = let w : ◌≡◌ {A = ℕ} 0 1 = cc in absurd (omega arith)
+  declined_first i [] r h = different cc
   declined_first i (e ∷ es) r h = declining i e es r (one i e) refl (declined_first (suc i) es r) h
 
   pub first_declines : (i : ℕ) (es : List Entity) (r : Refusal) → Declines mp s z rs i es r → stream mp s z rs i es ≡ declined r
@@ -204,7 +200,7 @@ entity_declined mp s i e v = (there, back)
     there p =
         by-test (some_nan (styles s e v))
         (λ h. h)
-        (λ h. let q = rw h at p in let w : ◌≡◌ {A = ℕ} 0 1 = cc in absurd (omega arith))
+        (λ h. let q = rw h at p in different cc)
 
     back : some_nan (styles s e v) ≡ true → entity_drawing mp s i e (layers v) ≡ declined (of_entity 9 mp i)
     back h = rw h
@@ -276,56 +272,15 @@ int_differ (negsuc a) (negsuc b) e = (refl, nat_differ b a (same_nat_sym a b e))
     same_nat_sym a b e = let q = eqb-false a b e in ne_eqb b a (λ p. omega arith)
 
 -- floats: equal exactly if neither is below the other
-nat_trichotomy : (a b : ℕ) → eqb a b ≡ (not (ltb a b) && not (ltb b a))
-nat_trichotomy a b =
-    by-test (ltb a b)
-    (λ p. let l = ltb-true a b p in rw (p, ne_eqb a b (λ e. omega arith)))
-    (λ p.
-    let m = ltb-false a b p in
-    by-test (ltb b a)
-    (λ q. let l = ltb-true b a q in rw (p, q, ne_eqb a b (λ e. omega arith)))
-    (λ q. let l = ltb-false b a q in rw (p, q, eq-eqb a b (omega arith))))
-
-zero_sum : (a b : ℕ) → (eqb a b && eqb a 0) ≡ not (ltb 0 (a + b))
-zero_sum a b =
-    by-test (ltb 0 (a + b))
-    (λ p.
-    let l = ltb-true 0 (a + b) p in
-    by-test (eqb a b)
-    (λ q. let m = eqb-true a b q in rw (p, q, ne_eqb a 0 (λ e. omega arith)))
-    (λ q. rw (p, q)))
-    (λ p. let l = ltb-false 0 (a + b) p in rw (p, eq-eqb a b (omega arith), eq-eqb a 0 (omega arith)))
-
-level_below : (s : Bool) (a : ℕ) (t : Bool) (b : ℕ) → level s a t b ≡ (not (below s a t b) && not (below t b s a))
-level_below false a false b = rw and-true (nat_trichotomy a b)
-level_below false a true b = rw add_comm (zero_sum a b)
-level_below true a false b = rw and-true (zero_sum a b)
-level_below true a true b = rw (and-true, and_comm) (nat_trichotomy a b)
-
-float_trichotomy : (x y : Float) → is_nan x ≡ false → is_nan y ≡ false → eq x y ≡ (not (lt x y) && not (lt y x))
-unfolding eq lt is_nan
-float_trichotomy nan y m n = clash refl m
-float_trichotomy (inf s) nan m n = clash refl n
-float_trichotomy (fin s a e) nan m n = clash refl n
-float_trichotomy (inf true) (inf true) m n = refl
-float_trichotomy (inf true) (inf false) m n = refl
-float_trichotomy (inf false) (inf true) m n = refl
-float_trichotomy (inf false) (inf false) m n = refl
-float_trichotomy (inf true) (fin t b d) m n = refl
-float_trichotomy (inf false) (fin t b d) m n = refl
-float_trichotomy (fin s a e) (inf true) m n = refl
-float_trichotomy (fin s a e) (inf false) m n = refl
-float_trichotomy (fin s a e) (fin t b d) m n = level_below s (a * up e * down d) t (b * up d * down e)
-
 module _ (x y : Float) (m : is_nan x ≡ false) (n : is_nan y ≡ false) where
   float_same : eq x y ≡ true → (float_le x y ≡ true) × (float_le y x ≡ true)
   unfolding float_le
   float_same e =
       by-test (lt x y)
-      (λ p. clash e (float_trichotomy x y m n ∙ (rw p)))
+      (λ p. absurd (eq-not_lt x y (T_from_true (eq x y) e) (T_from_true (lt x y) p)))
       (λ p.
       by-test (lt y x)
-      (λ q. clash e (float_trichotomy x y m n ∙ (rw (p, q))))
+      (λ q. absurd (eq-not_lt y x (eq_flip x y (T_from_true (eq x y) e)) (T_from_true (lt y x) q)))
       (λ q. ((rw (float_le, m, n, q)), (rw (float_le, m, n, p)))))
 
   float_differ : eq x y ≡ false → (is_le (compare_float x y) ≡ float_le x y) × (float_le y x ≡ not (float_le x y))
@@ -334,12 +289,16 @@ module _ (x y : Float) (m : is_nan x ≡ false) (n : is_nan y ≡ false) where
       by-test (lt x y)
       (λ p.
       by-test (lt y x)
-      (λ q. absurd (lt_asym x y (subst T (sym p) tt) (subst T (sym q) tt)))
+      (λ q. absurd (lt_asym x y (T_from_true (lt x y) p) (T_from_true (lt y x) q)))
       (λ q. ((rw (compare_float, float_le, m, n, p, q)), (rw (float_le, m, n, p, q)))))
       (λ p.
       by-test (lt y x)
       (λ q. ((rw (compare_float, float_le, m, n, p, q)), (rw (float_le, m, n, p, q))))
-      (λ q. clash (float_trichotomy x y m n ∙ (rw (p, q))) e))
+      (λ q.
+      ⊎_elim
+      (λ l. clash (holds (lt x y) l) p)
+      (λ l. clash (holds (eq x y) l) e)
+      (lt-or-eq x y (le_of_not-lt y x (T_from_false (is_nan y) n) (T_from_false (is_nan x) m) (T_from_false (lt y x) q)))))
 
 -- background first, unless for labels
 fill_key :

@@ -13,6 +13,11 @@ use Rattle.cascade.specs.Match.{Verdict, pass, fail, out, present, true_value, u
 use Rattle.cascade.specs.Cascade.{reaches, receive, ensure, step}
 use Rattle.cascade.specs.Walk.{layers, crowded, walk, property_maps}
 
+-- what a cascade of a small sheet runs through
+unfoldable pub cascading : Unit {0}
+unfolding same insert lookup member clauses applies fits_type tests_verdict verdict reaches receive ensure step crowded walk property_maps
+cascading = tt
+
 -- a rule with one selector, of ways
 abbrev pub way_rule : {A : Type 0} → Option Bytes → List Test → List (Entry A) → Rule A
 way_rule l ts ps =
@@ -32,7 +37,7 @@ pub plate :
     property_maps 13 (open_way []) plate_sheet ≡ layers
     (entry (ascii "*") (entry (ascii "width") 2 ∷ []) ∷ entry (ascii "c")
     (entry (ascii "width") 2 ∷ entry (ascii "color") 1 ∷ []) ∷ [])
-unfolding same insert lookup member clauses applies fits_type tests_verdict verdict reaches receive ensure step crowded walk property_maps
+unfolding cascading
 plate = refl
 
 -- ---- matching: marked cases 8, 10 and 11, what an absent tag and a malformed number do, and 8 only where the test is reached

@@ -1,25 +1,35 @@
 -- Demand 3 is not vacuous: two different sheets and entities that meet it, and for each hypothesis left out a case that shows it is needed.
-use Rattle.std.specs.Prelude.{ℕ, ◌≡◌, refl, Bool, true, false, length, Float}
-use Rattle.std.proofs.Common.{arith, ap}
+use Rattle.std.specs.Prelude.{ℕ, ◌≡◌, refl, false, length, Float}
+use Rattle.std.proofs.Common.{ap}
 use mathlib.Core.List.Memᴰ
 use mathlib.Core.List.{List, [], ◌∷◌, map, flat_map, Memᴰ}
 use Rattle.std.proofs.Math.Option.{Option, none, some, get_or}
 use Rattle.std.specs.Float.Ieee.{add, mul, neg, of_int}
 use Rattle.base.specs.Bytes.{Bytes, ascii, same}
-use Rattle.base.specs.Choice.{clash}
-use Rattle.base.specs.Map.{Entry, Map, entry, lookup, member}
+use Rattle.base.specs.Choice.{different}
+use Rattle.base.specs.Map.{Entry, Map, entry, lookup}
 use Rattle.base.specs.Entity.{Entity}
 use Rattle.sheet.specs.Sheet.{area, exists, Test, unary, Rule, Value, identifier, numbers}
-use Rattle.cascade.specs.Map.{insert, keep, and_map, or_else}
-use Rattle.cascade.specs.Clause.{star, default_name, layer_name, clauses}
+use Rattle.cascade.specs.Map.{keep, and_map, or_else}
+use Rattle.cascade.specs.Clause.{star, default_name, layer_name}
 use Rattle.cascade.specs.Number.{negative, unsigned, after_digits, spelt, whole_number, ranged, as_integer, whole}
-use Rattle.cascade.specs.Match.{tag, present, unary_holds, test_verdict, tests_verdict, fits_type, applies, verdict}
-use Rattle.cascade.specs.Cascade.{Layers, reaches, receive, ensure, step}
-use Rattle.cascade.specs.Walk.{layers, crowded, walk, property_maps}
+use Rattle.cascade.specs.Match.{tag, present, unary_holds, test_verdict}
+use Rattle.cascade.specs.Cascade.{Layers}
+use Rattle.cascade.specs.Walk.{layers, property_maps}
 use Rattle.cascade.specs.Style.{Settings, josm, casing_multiplier, as_number, as_delta, layer_tag, width_of, width_or_zero, base_width, casing_only, full_casing, style_from, styles}
 use Rattle.cascade.specs.Isolation.{has_one, strike, tested_keys, Agree, SameReach, SameStyle}
 use Rattle.cascade.proofs.IsolationProof.{isolated, style_isolated}
-use Rattle.cascade.proofs.Examples.{way_rule}
+use Rattle.cascade.proofs.Examples.{cascading, way_rule}
+
+-- what a cascade and a style run through
+tested : Unit {0}
+unfolding cascading keep present unary_holds test_verdict
+tested = tt
+
+styled : Unit {0}
+unfolding same keep lookup and_map or_else as_number as_delta width_or_zero base_width casing_multiplier casing_only full_casing style_from
+    styles add mul of_int
+styled = tt
 
 abbrev casing : Bytes
 casing = ascii "casing"
@@ -83,13 +93,11 @@ agreeing = record { kinds = refl; tags = one_key (λ k. tag one k ≡ tag two k)
 
 -- neither call is refused
 pub first_answers : property_maps 13 one first ≡ layers first_layers
-unfolding same keep insert lookup member clauses present unary_holds test_verdict applies fits_type tests_verdict verdict reaches receive
-    ensure step crowded walk property_maps
+unfolding tested
 first_answers = refl
 
 pub second_answers : property_maps 13 two second ≡ layers second_layers
-unfolding same keep insert lookup member clauses present unary_holds test_verdict applies fits_type tests_verdict verdict reaches receive
-    ensure step crowded walk property_maps
+unfolding tested
 second_answers = refl
 
 -- the tags `layer` are read alike, and the default layer's widths are equal
@@ -103,10 +111,10 @@ widths_equal = refl
 
 -- yet the sheets and the layers are different
 pub sheets_differ : first ≡ second → ⊥
-sheets_differ p = let q = ap length p in let z : ◌≡◌ {A = ℕ} 2 4 = cc in omega arith
+sheets_differ p = let q = ap length p in different cc
 
 pub layers_differ : first_layers ≡ second_layers → ⊥
-layers_differ p = let q = ap length p in let z : ◌≡◌ {A = ℕ} 2 3 = cc in omega arith
+layers_differ p = let q = ap length p in different cc
 
 -- so demand 3 applies: the layer is the same in both, and there
 pub reach_met : SameReach casing 13 first second one two first_layers second_layers
@@ -159,16 +167,14 @@ pub needs_equal_rules :
     → property_maps z e qs ≡ layers w
     → lookup k v ≡ lookup k w)
     → ⊥
-unfolding same keep insert lookup member clauses present unary_holds test_verdict applies fits_type tests_verdict verdict reaches receive
-    ensure step crowded walk property_maps
+unfolding tested
 needs_equal_rules claim =
     let rs = numbered (some casing) [] 0 ∷ [] in
     let p =
     claim casing 13 rs (numbered (some casing) [] 1 ∷ []) one one (layer_with casing 0 ∷ [])
     (layer_with casing 1 ∷ []) (agree_self one (strike casing rs)) refl refl in
     let q = ap (λ o. lookup (ascii "width") (get_or o [])) p in
-    let z : ◌≡◌ {A = ℕ} 0 1 = cc in
-    omega arith
+    different cc
 
 -- nor is it enough that the rules of the layer itself are equal: way::*{width:0;} and way::*{width:1;}, then way::casing{}
 pub needs_star_rules :
@@ -179,8 +185,7 @@ pub needs_star_rules :
     → property_maps z e qs ≡ layers w
     → lookup k v ≡ lookup k w)
     → ⊥
-unfolding same keep insert lookup member clauses present unary_holds test_verdict applies fits_type tests_verdict verdict reaches receive
-    ensure step crowded walk property_maps
+unfolding tested
 needs_star_rules claim =
     let rs = numbered (some star) [] 0 ∷ way_rule (some casing) [] [] ∷ [] in
     let p =
@@ -189,8 +194,7 @@ needs_star_rules claim =
     (layer_with star 0 ∷ layer_with casing 0 ∷ []) (layer_with star 1 ∷ layer_with casing 1 ∷ []) refl
     (agree_self one (strike casing rs)) refl refl in
     let q = ap (λ o. lookup (ascii "width") (get_or o [])) p in
-    let z : ◌≡◌ {A = ℕ} 0 1 = cc in
-    omega arith
+    different cc
 
 -- a tested tag differs: way::casing[highway]{width:0;}
 pub needs_equal_tags :
@@ -201,13 +205,11 @@ pub needs_equal_tags :
     → property_maps z e qs ≡ layers w
     → lookup k v ≡ lookup k w)
     → ⊥
-unfolding same keep insert lookup member clauses present unary_holds test_verdict applies fits_type tests_verdict verdict reaches receive
-    ensure step crowded walk property_maps
+unfolding tested
 needs_equal_tags claim =
     let rs = numbered (some casing) (unary exists (ascii "highway") ∷ []) 0 ∷ [] in
     let p = claim casing 13 rs rs one (road 1 []) (layer_with casing 0 ∷ []) [] refl refl refl refl in
-    let z : ◌≡◌ {A = ℕ} 0 1 = cc in
-    omega arith
+    different cc
 
 -- the kinds differ: area::casing{width:0;}
 pub needs_equal_kinds :
@@ -218,8 +220,7 @@ pub needs_equal_kinds :
     → property_maps z e qs ≡ layers w
     → lookup k v ≡ lookup k w)
     → ⊥
-unfolding same keep insert lookup member clauses present unary_holds test_verdict applies fits_type tests_verdict verdict reaches receive
-    ensure step crowded walk property_maps
+unfolding tested
 needs_equal_kinds claim =
     let rs = area_rule ∷ [] in
     let p =
@@ -227,8 +228,7 @@ needs_equal_kinds claim =
     (layer_with casing 0 ∷ []) refl
     (λ x m. refl)
     refl refl in
-    let z : ◌≡◌ {A = ℕ} 0 1 = cc in
-    omega arith
+    different cc
 
 -- ---- and of the style
 
@@ -247,9 +247,7 @@ pub needs_layer_alike :
     → ((m : Map Value) → lookup k v ≡ some m → width_of m ≡ none → width_or_zero (lookup default_name v) ≡ width_or_zero (lookup default_name w))
     → lookup k (styles s d v) ≡ lookup k (styles s e w))
     → ⊥
-unfolding same keep insert lookup member clauses present unary_holds test_verdict applies fits_type tests_verdict verdict reaches receive
-    ensure step crowded walk property_maps and_map or_else negative unsigned after_digits spelt whole_number ranged as_integer as_number as_delta
-    width_or_zero base_width casing_multiplier casing_only full_casing style_from styles flat_map
+unfolding tested styled negative unsigned after_digits spelt whole_number ranged as_integer flat_map
 needs_layer_alike claim =
     let rs = way_rule (some casing) [] (number (ascii "width") 1 ∷ []) ∷ [] in
     let v = entry casing (number (ascii "width") 1 ∷ []) ∷ [] in
@@ -260,8 +258,7 @@ needs_layer_alike claim =
     (λ m q r. refl)
     in
     let q = ap (and_map (λ s. s.layer)) p in
-    let z : ◌≡◌ {A = ℕ} 1 2 = cc in
-    omega arith
+    different cc
 
 -- the default layer's widths differ, and the casing has none: way{width:4;} or way{width:5;}, then the casing
 abbrev wide : ℕ → List (Rule Value)
@@ -275,17 +272,15 @@ unfolding keep same
 wide_left m n = refl
 
 wide_answers : (n : ℕ) → property_maps 13 one (wide n) ≡ layers (wide_layers n)
-unfolding same keep insert lookup member clauses present unary_holds test_verdict applies fits_type tests_verdict verdict reaches receive
-    ensure step crowded walk property_maps
+unfolding tested
 wide_answers n = refl
 
 casing_of : ℕ → Option Float
 casing_of n = and_map (λ s. s.casing_width) (lookup casing (styles settings one (wide_layers n)))
 
 casings_differ : casing_of 4 ≡ casing_of 5 → ⊥
-unfolding casing_of same keep lookup and_map or_else as_number as_delta width_or_zero base_width casing_multiplier casing_only full_casing style_from
-    styles add mul of_int
-casings_differ p = let z : ◌≡◌ {A = ℕ} 3 7 = cc in omega arith
+unfolding casing_of styled
+casings_differ p = different cc
 
 pub needs_default_width :
     ((k : Bytes) (z : ℕ) (rs qs : List (Rule Value)) (d e : Entity) (v w : Layers Value)
@@ -316,6 +311,5 @@ pub minus_zero_differs :
     sign_of (entry default_name (minus_zero (ascii "width") ∷ []) ∷ entry casing (minus_zero (ascii "casing-width") ∷ []) ∷ [])
     ≡ sign_of (entry casing (minus_zero (ascii "casing-width") ∷ []) ∷ [])
     → ⊥
-unfolding same keep lookup and_map or_else as_number as_delta width_or_zero base_width casing_multiplier casing_only full_casing style_from
-    styles add mul of_int neg
-minus_zero_differs p = let z : ◌≡◌ {A = Bool} true false = cc in clash refl z
+unfolding styled neg
+minus_zero_differs p = different cc

@@ -1,10 +1,10 @@
 -- A verdict depends on the kind and the tested tags alone; it is 8 exactly if a reached test meets a tag number out of range.
 use Rattle.std.specs.Prelude.{ℕ, ◌≡◌, refl, Bool, true, false}
-use Rattle.std.proofs.Common.{arith, ap}
+use Rattle.std.proofs.Common.{ap}
 use mathlib.Core.List.{List, [], ◌∷◌, ◌++◌, map, Memᴰ}
 use Rattle.std.proofs.Math.Option.{Option, none, some}
 use Rattle.base.specs.Bytes.{Bytes}
-use Rattle.base.specs.Choice.{by-test}
+use Rattle.base.specs.Choice.{by-test, different}
 use Rattle.base.specs.Entity.{Entity}
 use Rattle.sheet.specs.Sheet.{Test, unary, text, numeric, Selector}
 use Rattle.cascade.specs.Number.{TagNumber, reads, malformed, out_of_range, tag_number}
@@ -14,15 +14,6 @@ pub by-verdict {ℓ} : {A : Type ℓ} (v : Verdict) → (v ≡ pass → A) → (
 by-verdict pass f g h = f refl
 by-verdict fail f g h = g refl
 by-verdict out f g h = h refl
-
-pub fail_out : {A : Type 0} → fail ≡ out → A
-fail_out p = let z : ◌≡◌ {A = ℕ} 0 1 = cc in absurd (omega arith)
-
-pub pass_out : {A : Type 0} → pass ≡ out → A
-pass_out p = let z : ◌≡◌ {A = ℕ} 0 1 = cc in absurd (omega arith)
-
-fail_pass : {A : Type 0} → fail ≡ pass → A
-fail_pass p = let z : ◌≡◌ {A = ℕ} 0 1 = cc in absurd (omega arith)
 
 tests_agree :
     (d e : Entity) (ts : List Test)
@@ -45,8 +36,8 @@ unfolding verdict
 verdict_unfit z e s p = rw p
 
 bool_in : {A : Type 0} (b : Bool) → of_bool b ≡ out → A
-bool_in true p = pass_out p
-bool_in false p = fail_out p
+bool_in true p = different cc
+bool_in false p = different cc
 
 -- 8 comes from such a test only
 out_outside : (e : Entity) (t : Test) → verdict_on e t ≡ out → Outside e t
@@ -57,11 +48,11 @@ out_outside e (numeric c k y) p = found (tag e k) refl p
   where
     known : (v : Bytes) (n : TagNumber) → tag e k ≡ some v → tag_number v ≡ n → number_verdict c y n ≡ out → Outside e (numeric c k y)
     known v (reads x) i j q = bool_in (compares c x y) q
-    known v malformed i j q = fail_out q
+    known v malformed i j q = different cc
     known v out_of_range i j q = record { test = c; bound = y; bytes = v; numeric_is = refl; tag_is = i; number_is = j }
 
     found : (o : Option Bytes) → tag e k ≡ o → numeric_verdict c y o ≡ out → Outside e (numeric c k y)
-    found none i q = fail_out q
+    found none i q = different cc
     found (some v) i q = known v (tag_number v) i refl q
 
 outside_out : (e : Entity) (t : Test) → Outside e t → verdict_on e t ≡ out
@@ -74,13 +65,13 @@ tests_reach :
     → (earlier : List Test) × (t : Test) × (later : List Test) × (ts ≡ earlier ++ (t ∷ later)) ×
     (tests_verdict e earlier ≡ pass) × (verdict_on e t ≡ out)
 unfolding tests_verdict
-tests_reach e [] p = pass_out p
+tests_reach e [] p = different cc
 tests_reach e (t ∷ ts) p =
     by-verdict (verdict_on e t)
     (λ v.
     let r = tests_reach e ts (rw v at p) in
     (t ∷ r.0, r.1, r.2, ap (λ l. t ∷ l) r.3, (rw v r.4), r.5))
-    (λ v. fail_out (rw v at p))
+    (λ v. let q = rw v at p in different cc)
     (λ v. ([], t, ts, refl, refl, v))
 
 tests_out :
@@ -93,7 +84,7 @@ tests_out e [] t bs p q = rw q
 tests_out e (a ∷ us) t bs p q =
     by-verdict (verdict_on e a)
     (λ v. rw v (tests_out e us t bs (rw v at p) q))
-    (λ v. fail_pass (rw v at p))
+    (λ v. let r = rw v at p in different cc)
     (λ v. rw v)
 
 -- 8 exactly if a reached numeric test meets a tag number outside the exact range
@@ -104,7 +95,7 @@ out_reached z e s p =
     (λ a.
     let r = tests_reach e s.tests (rw a at p) in
     (r.1, record { fits = a; earlier = r.0; later = r.2; stands = r.3; hold = r.4 }, out_outside e r.1 r.5))
-    (λ a. fail_out (rw a at p))
+    (λ a. let q = rw a at p in different cc)
 
 pub reached_out : (z : ℕ) (e : Entity) (s : Selector) (t : Test) → Reached z e s t → Outside e t → verdict z e s ≡ out
 unfolding verdict

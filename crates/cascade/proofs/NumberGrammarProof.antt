@@ -1,18 +1,15 @@
 -- Tag numbers and `layer` tags are read from exactly the texts of the grammar.
-use Rattle.std.specs.Prelude.{ℕ, ◌≤◌, ◌≡◌, refl, ◌↔◌, ◌⊎◌, Bool, true, false, List, [], ◌∷◌, ◌++◌, map, eqb, leb, length, ℤ, pos, ◌-ℤ◌, Float}
+use Rattle.std.specs.Prelude.{ℕ, ◌≤◌, ◌≡◌, refl, ◌↔◌, ◌⊎◌, Bool, true, false, [], ◌∷◌, ◌++◌, map, eqb, leb, length, ℤ, pos, ◌-ℤ◌, Float}
 use Rattle.std.proofs.Common.{arith, sym, ◌∙◌, ap, ap₂, subst, inl, inr, append-nil, eqb-true, ne_eqb, leb-true}
 use Rattle.std.proofs.Math.Bool.{and-false}
 use Rattle.std.proofs.Math.Option.{Option, none, some}
 use Rattle.std.specs.Float.{nan, inf}
 use Rattle.std.proofs.lemmas.Bool.{lt-leb}
 use Rattle.base.specs.Bytes.{Bytes, ascii, same}
-use Rattle.base.specs.Choice.{by-test, and_left, and_right}
+use Rattle.base.specs.Choice.{by-test, different, and_left, and_right}
 use Rattle.base.proofs.Compare.{same_refl, same_true}
 use Rattle.cascade.specs.Number.{is_minus, is_plus, is_dot, is_e, is_digit, lower_case, negative, unsigned, digits, after_digits, spelt, whole_number, with_sign, signed_number, in_i64, ranged, as_integer, Decimal, decimals, after_decimals, exponent_of, decimal_from, decimal_of, reads, malformed, value_of, unsigned_number, tag_number}
 use Rattle.cascade.specs.NumberGrammar.{all_digits, Sign, absent, plus, minus, Fraction, dot, Exponent, written, Spells, Word, infinite, infinity, not_number, SpellsInteger}
-
-none_some : {A B : Type 0} (x : A) → none ≡ some x → B
-none_some x p = let z : ◌≡◌ {A = ℕ} 0 1 = cc in absurd (omega arith)
 
 -- ---- digits
 
@@ -56,7 +53,7 @@ whole_spelt :
     → whole_number s ≡ some n
     → (d : ℕ) × (ds : Bytes) × (s ≡ d ∷ ds) × (all_digits (d ∷ ds) ≡ true) × (n ≡ spelt (d ∷ ds))
 unfolding whole_number
-whole_spelt [] n p = none_some n p
+whole_spelt [] n p = different cc
 whole_spelt (d ∷ ds) n p =
     by-test (same (after_digits (d ∷ ds)) [])
     (λ h.
@@ -65,7 +62,7 @@ whole_spelt (d ∷ ds) n p =
     let e = same_true (after_digits (d ∷ ds)) [] h in
     let f : d ∷ ds ≡ digits (d ∷ ds) = i.1 ∙ ap (λ r. digits (d ∷ ds) ++ r) e ∙ append-nil (digits (d ∷ ds)) in
     (d, ds, refl, ap all_digits f ∙ i.0, cc))
-    (λ h. none_some n (rw h at p))
+    (λ h. let u = rw h at p in different cc)
 
 -- ---- signs
 
@@ -109,7 +106,7 @@ exponent_spelt [] e p = let q : pos 0 ≡ e = cc in subst (λ y. Exponent [] y) 
 exponent_spelt (b ∷ s) e p =
     by-test (is_e b)
     (λ h. numbered (whole_number (unsigned s)) refl h (rw h at p))
-    (λ h. none_some e (rw h at p))
+    (λ h. let u = rw h at p in different cc)
   where
     numbered :
         (o : Option ℕ)
@@ -117,7 +114,7 @@ exponent_spelt (b ∷ s) e p =
         → is_e b ≡ true
         → signed_number (negative s) (whole_number (unsigned s)) ≡ some e
         → Exponent (b ∷ s) e
-    numbered none q h r = none_some e (rw q at r)
+    numbered none q h r = let u = rw q at r in different cc
     numbered (some n) q h r =
         let g = sign_spelt s in
         let w = whole_spelt (unsigned s) n q in
@@ -172,17 +169,14 @@ from_read s [] [] e h = absurd (h refl)
 from_read s (d ∷ ds) fs e h = refl
 from_read s [] (f ∷ fs) e h = refl
 
-cons_nil : {A : Type 0} (x : A) (xs : List A) → x ∷ xs ≡ [] → ⊥
-cons_nil x xs p = let z : ◌≡◌ {A = ℕ} 0 1 = cc in omega arith
-
 from_spelt :
     (s : Bool) (ds fs : Bytes) (e : ℤ) (n : Decimal)
     → decimal_from s ds fs (some e) ≡ some n
     → (ds ++ fs ≡ [] → ⊥) × (decimal s ds fs e ≡ n)
 unfolding decimal_from
-from_spelt s [] [] e n p = none_some n p
-from_spelt s (d ∷ ds) fs e n p = (cons_nil d (ds ++ fs), cc)
-from_spelt s [] (f ∷ fs) e n p = (cons_nil f fs, cc)
+from_spelt s [] [] e n p = different cc
+from_spelt s (d ∷ ds) fs e n p = (λ q. different cc, cc)
+from_spelt s [] (f ∷ fs) e n p = (λ q. different cc, cc)
 
 decimal_read :
     (v : Bytes) (n : Decimal) (s : Spells v n)
@@ -288,7 +282,7 @@ decimal_spelt v n p = go (exponent_of (after_decimals (after_digits (unsigned v)
     rest = after_digits (unsigned v)
 
     go : (o : Option ℤ) → exponent_of (after_decimals rest) ≡ o → Spells v n
-    go none q = none_some n (rw q at p)
+    go none q = let u = rw q at p in different cc
     go (some e) q =
         let g = sign_spelt v in
         let i = digits_all (unsigned v) in
@@ -375,10 +369,10 @@ integer_exactly v i = (there, back)
     kept j p =
         by-test (in_i64 j)
         (λ h. let q = rw h at p in let e : j ≡ i = cc in (e, (rw (← e) h)))
-        (λ h. none_some i (rw h at p))
+        (λ h. let u = rw h at p in different cc)
 
     found : (o : Option ℕ) → whole_number (unsigned v) ≡ o → as_integer v ≡ some i → SpellsInteger v i
-    found none q p = none_some i (rw q at p)
+    found none q p = let u = rw q at p in different cc
     found (some n) q p =
         let g = sign_spelt v in
         let w = whole_spelt (unsigned v) n q in

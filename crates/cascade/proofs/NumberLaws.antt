@@ -69,16 +69,12 @@ div_value f (fin s' m e) (fin t' (suc n) k) s t a c b d C D B v w =
 
 -- the powers of ten up to 10 ^ 22 are exact
 abbrev is_ten : ℕ → Float → Bool
-is_ten k nan = false
-is_ten k (inf s) = false
-is_ten k (fin true m e) = false
 is_ten k (fin false m e) = eqb (m * up e * 1) (10 ^ k * down e)
+is_ten k x = false
 
 ten_value : (k : ℕ) (x : Float) → T (is_ten k x) → HasValue x false (10 ^ k) 1
-ten_value k nan t = t
-ten_value k (inf s) t = t
-ten_value k (fin true m e) t = absurd t
 ten_value k (fin false m e) t = (refl, eqb→eq (m * up e * 1) (10 ^ k * down e) t)
+ten_value k x t = absurd t
 
 unfoldable tens : ℕ → Bool
 tens zero = is_ten 0 (whole (10 ^ 0))

@@ -1,9 +1,9 @@
 -- Where the walk refuses nothing its layers are those that the matched selectors declare.
 use Rattle.std.specs.Prelude.{ℕ, ◌≤◌, ◌≡◌, false, ltb, length}
-use Rattle.std.proofs.Common.{arith, ◌∙◌, ltb-false}
+use Rattle.std.proofs.Common.{◌∙◌, ltb-false}
 use Rattle.std.proofs.Math.Path.{refl}
 use mathlib.Core.List.{List, [], ◌∷◌, ◌++◌, map-append, foldl}
-use Rattle.base.specs.Choice.{by-test}
+use Rattle.base.specs.Choice.{by-test, different}
 use Rattle.base.specs.Entity.{Entity}
 use Rattle.sheet.specs.Sheet.{Rule}
 use Rattle.cascade.specs.Map.{keep}
@@ -20,7 +20,7 @@ module _ {A : Type 0} where
   continue_admit m a f = by-test (ltb 32 (length m)) (λ p. rw p) (λ p. by-test (crowded m) (λ q. rw (p, q)) (λ q. rw (p, q)))
 
   pub refused_layers : (n : ℕ) (w : Layers A) → refused n ≡ layers w → ⊥
-  refused_layers n w p = let z : ◌≡◌ {A = ℕ} 0 1 = cc in omega arith
+  refused_layers n w p = different cc
 
   pub admitted : (m : Layers A) (a : Answer A) (w : Layers A) → admit m a ≡ layers w → a ≡ layers w
   admitted m a w p =

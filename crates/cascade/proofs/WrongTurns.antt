@@ -1,18 +1,16 @@
 -- Wrong turns of a cascade that the paper names, each on a small sheet: what such an engine would answer is not the meaning of the sheet.
 use Rattle.std.specs.Prelude.{ℕ, ◌≡◌, refl, List, [], ◌∷◌, map}
-use Rattle.std.proofs.Common.{arith, ap}
+use Rattle.std.proofs.Common.{ap}
 use Rattle.std.proofs.Math.Option.{Option, none, some, get_or}
-use Rattle.base.specs.Bytes.{Bytes, ascii, same}
-use Rattle.base.specs.Map.{Entry, entry, lookup, member}
+use Rattle.base.specs.Bytes.{Bytes, ascii}
+use Rattle.base.specs.Choice.{different}
+use Rattle.base.specs.Map.{Entry, entry, lookup}
 use Rattle.sheet.specs.Sheet.{Rule}
-use Rattle.cascade.specs.Map.{insert}
-use Rattle.cascade.specs.Clause.{clauses}
-use Rattle.cascade.specs.Match.{fits_type, applies, tests_verdict, verdict}
-use Rattle.cascade.specs.Cascade.{Layers, reaches, receive, ensure, step}
-use Rattle.cascade.specs.Walk.{layers, crowded, walk, property_maps}
+use Rattle.cascade.specs.Cascade.{Layers}
+use Rattle.cascade.specs.Walk.{layers, property_maps}
 use Rattle.cascade.specs.Meaning.{Meaning}
 use Rattle.cascade.proofs.MeaningProof.{demand_2, meaning_one}
-use Rattle.cascade.proofs.Examples.{way_rule, open_way}
+use Rattle.cascade.proofs.Examples.{cascading, way_rule, open_way}
 
 abbrev width : ℕ → Entry ℕ
 width n = entry (ascii "width") n
@@ -39,46 +37,42 @@ abbrev inherit_sheet : List (Rule ℕ)
 inherit_sheet = way_rule none [] (width 0 ∷ []) ∷ way_rule (some (ascii "c")) [] (color 1 ∷ []) ∷ []
 
 pub inherit_default : Right inherit_sheet (entry (ascii "default") (width 0 ∷ []) ∷ entry (ascii "c") (width 0 ∷ color 1 ∷ []) ∷ []) → ⊥
-unfolding same insert lookup member clauses applies fits_type tests_verdict verdict reaches receive ensure step crowded walk property_maps
+unfolding cascading
 inherit_default m =
     let e =
     only inherit_sheet (entry (ascii "default") (width 0 ∷ []) ∷ entry (ascii "c") (color 1 ∷ []) ∷ [])
     (entry (ascii "default") (width 0 ∷ []) ∷ entry (ascii "c") (width 0 ∷ color 1 ∷ []) ∷ []) refl m in
     let f = ap (at (ascii "c") (ascii "width")) e in
-    let z : ◌≡◌ {A = ℕ} 0 1 = cc in
-    omega arith
+    different cc
 
 -- "Putting an overwritten name last": way{width:0; color:1; width:2;}
 abbrev overwrite_sheet : List (Rule ℕ)
 overwrite_sheet = way_rule none [] (width 0 ∷ color 1 ∷ width 2 ∷ []) ∷ []
 
 pub overwritten_last : Right overwrite_sheet (entry (ascii "default") (color 1 ∷ width 2 ∷ []) ∷ []) → ⊥
-unfolding same insert lookup member clauses applies fits_type tests_verdict verdict reaches receive ensure step crowded walk property_maps
+unfolding cascading
 overwritten_last m =
     let e =
     only overwrite_sheet (entry (ascii "default") (width 2 ∷ color 1 ∷ []) ∷ [])
     (entry (ascii "default") (color 1 ∷ width 2 ∷ []) ∷ []) refl m in
     let f = ap (values (ascii "default")) e in
-    let z : ◌≡◌ {A = ℕ} 2 1 = cc in
-    omega arith
+    different cc
 
 -- "one that applies the first rule and then only walks on": way{width:0;} way{width:1;}
 abbrev two_rules : List (Rule ℕ)
 two_rules = way_rule none [] (width 0 ∷ []) ∷ way_rule none [] (width 1 ∷ []) ∷ []
 
 pub first_rule_only : Right two_rules (entry (ascii "default") (width 0 ∷ []) ∷ []) → ⊥
-unfolding same insert lookup member clauses applies fits_type tests_verdict verdict reaches receive ensure step crowded walk property_maps
+unfolding cascading
 first_rule_only m =
     let e = only two_rules (entry (ascii "default") (width 1 ∷ []) ∷ []) (entry (ascii "default") (width 0 ∷ []) ∷ []) refl m in
     let f = ap (at (ascii "default") (ascii "width")) e in
-    let z : ◌≡◌ {A = ℕ} 0 1 = cc in
-    omega arith
+    different cc
 
 -- "an engine that serves one fixed property map": whatever it is, the empty sheet or this one shows it
 pub one_fixed_map : (v : Layers ℕ) → ((rs : List (Rule ℕ)) → Right rs v) → ⊥
-unfolding same insert lookup member clauses applies fits_type tests_verdict verdict reaches receive ensure step crowded walk property_maps
+unfolding cascading
 one_fixed_map v m =
     let a = only [] [] v refl (m []) in
     let b = only two_rules (entry (ascii "default") (width 1 ∷ []) ∷ []) v refl (m two_rules) in
-    let z : ◌≡◌ {A = ℕ} 0 1 = cc in
-    omega arith
+    different cc

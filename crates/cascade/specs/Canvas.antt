@@ -5,7 +5,7 @@ use Rattle.std.proofs.Math.Option.{Option, none, some}
 use Rattle.base.specs.Bytes.{Bytes, ascii, same}
 use Rattle.base.specs.Map.{Entry}
 use Rattle.color.specs.declared.Color.{Color}
-use Rattle.sheet.specs.Sheet.{ObjectType, all, canvas, meta, node, way, area, Rule, Value, identifier, string, color, numbers, width_delta}
+use Rattle.sheet.specs.Sheet.{ObjectType, canvas, Rule, Value, color}
 use Rattle.cascade.specs.Map.{or_else}
 use Rattle.cascade.specs.Clause.{Clause, clauses}
 use Rattle.cascade.specs.Style.{StyleType, josm, maps_me}
@@ -15,19 +15,12 @@ canvas_property josm = ascii "fill-color"
 canvas_property maps_me = ascii "background-color"
 
 abbrev pub is_canvas : ObjectType → Bool
-is_canvas all = false
 is_canvas canvas = true
-is_canvas meta = false
-is_canvas node = false
-is_canvas way = false
-is_canvas area = false
+is_canvas t = false
 
 abbrev pub color_value : Value → Option Color
-color_value (identifier i) = none
-color_value (string s) = none
 color_value (color c) = some c
-color_value (numbers xs) = none
-color_value (width_delta d) = none
+color_value v = none
 
 unfoldable pub first_color : Bytes → List (Entry Value) → Option Color
 first_color n [] = none

@@ -5,7 +5,7 @@ use Rattle.std.specs.Float.Ieee.{lt, le}
 use Rattle.base.specs.Bytes.{Bytes, ascii, same}
 use Rattle.base.specs.Map.{lookup}
 use Rattle.base.specs.Entity.{Entity}
-use Rattle.sheet.specs.Sheet.{ObjectType, all, canvas, meta, node, way, area, UnaryTest, exists, not_exists, is_true, is_false, TextTest, equal, not_equal, NumericTest, less, less_or_equal, greater, greater_or_equal, Test, unary, text, numeric, Selector}
+use Rattle.sheet.specs.Sheet.{ObjectType, node, way, area, UnaryTest, exists, not_exists, is_true, is_false, TextTest, equal, not_equal, NumericTest, less, less_or_equal, greater, greater_or_equal, Test, unary, text, numeric, Selector}
 use Rattle.cascade.specs.Number.{TagNumber, reads, malformed, out_of_range, tag_number}
 
 abbrev pub tag : Entity → Bytes → Option Bytes
@@ -77,12 +77,10 @@ verdict_on e t = test_verdict t (tag e (test_key t))
 
 -- `*`, `canvas` and `meta` match no entity
 unfoldable pub fits_type : ObjectType → ℕ → Bool
-fits_type all k = false
-fits_type canvas k = false
-fits_type meta k = false
 fits_type node k = eqb k 0
 fits_type way k = eqb k 1 || eqb k 2
 fits_type area k = eqb k 2
+fits_type t k = false
 
 -- zoom ends are inclusive
 abbrev pub at_least : ℕ → Option ℕ → Bool

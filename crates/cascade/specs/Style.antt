@@ -68,54 +68,30 @@ named_color (Some c) = some c
 
 -- what the getters read from a value; `none` is an absent property
 unfoldable pub as_color : Option Value → Option Color
-as_color none = none
 as_color (some (identifier i)) = named_color (color_named i)
-as_color (some (string s)) = none
 as_color (some (color c)) = some c
-as_color (some (numbers xs)) = none
-as_color (some (width_delta d)) = none
+as_color v = none
 
 unfoldable pub as_number : Option Value → Option Float
-as_number none = none
-as_number (some (identifier i)) = none
-as_number (some (string s)) = none
-as_number (some (color c)) = none
-as_number (some (numbers [])) = none
 as_number (some (numbers (x ∷ []))) = some x
-as_number (some (numbers (x ∷ y ∷ xs))) = none
-as_number (some (width_delta d)) = none
+as_number v = none
 
 unfoldable pub as_identifier : Option Value → Option Bytes
-as_identifier none = none
 as_identifier (some (identifier i)) = some i
-as_identifier (some (string s)) = none
-as_identifier (some (color c)) = none
-as_identifier (some (numbers xs)) = none
-as_identifier (some (width_delta d)) = none
+as_identifier v = none
 
 unfoldable pub as_text : Option Value → Option Bytes
-as_text none = none
 as_text (some (identifier i)) = some i
 as_text (some (string s)) = some s
-as_text (some (color c)) = none
-as_text (some (numbers xs)) = none
-as_text (some (width_delta d)) = none
+as_text v = none
 
 unfoldable pub as_dashes : Option Value → Option (List Float)
-as_dashes none = none
-as_dashes (some (identifier i)) = none
-as_dashes (some (string s)) = none
-as_dashes (some (color c)) = none
 as_dashes (some (numbers xs)) = some xs
-as_dashes (some (width_delta d)) = none
+as_dashes v = none
 
 unfoldable pub as_delta : Option Value → Option Float
-as_delta none = none
-as_delta (some (identifier i)) = none
-as_delta (some (string s)) = none
-as_delta (some (color c)) = none
-as_delta (some (numbers xs)) = none
 as_delta (some (width_delta d)) = some d
+as_delta v = none
 
 unfoldable pub cap_names : Map LineCap
 cap_names = entry (ascii "none") butt ∷ entry (ascii "butt") butt ∷ entry (ascii "round") round ∷ entry (ascii "square") square ∷ []

@@ -2,28 +2,28 @@
 use Prim.Native.Nat.{ℕ}
 use mathlib.Core.Path.{◌≡◌, refl}
 use mathlib.Core.List.{List, [], ◌∷◌, map, Memᴰ}
+use Rattle.std.proofs.Common.{rules}
 use Rattle.base.specs.Bytes.{Bytes, same}
 use Rattle.base.specs.Choice.{pick, by-test}
 use Rattle.base.proofs.Compare.{same_false}
 use Rattle.color.specs.Named.{Named, row, named_colors, first_named, color_named}
 use Rattle.std.specs.Prelude.{Some, None}
 use Rattle.std.specs.Borrow.{Bor}
-use Rattle.std.specs.List.{find}
+use Rattle.std.specs.List.{find, AllByRecursion}
 use Rattle.std.specs.Option.{option_map}
 
--- each entry of a list has, by its name, its own colour
-pub data Colored : List Named → Type 0 where
-  none : Colored []
-  next : {e : Named} {es : List Named} → color_named e.name ≡ Some e.color → Colored es → Colored (e ∷ es)
+-- an entry has, by its name, its own colour
+abbrev Colored : Named → Type 0
+Colored e = color_named e.name ≡ Some e.color
 
-pub all_colored : Colored named_colors
+pub all_colored : AllByRecursion Colored named_colors
 unfolding color_named first_named same pick
-all_colored = next refl (next refl (next refl (next refl (next refl (next refl (next refl (next refl (next refl (next refl none)))))))))
+all_colored = search rules
 
-colored_in : (es : List Named) → Colored es → (e : Named) → Memᴰ e es → color_named e.name ≡ Some e.color
-colored_in (d ∷ es) (next p ps) e (Memᴰ.head q) = rw q p
-colored_in (d ∷ es) (next p ps) e (Memᴰ.tail m) = colored_in es ps e m
-colored_in [] _ e x3 = elim x3 [ ]
+colored_in : (es : List Named) → AllByRecursion Colored es → (e : Named) → Memᴰ e es → Colored e
+colored_in (d ∷ es) p e (Memᴰ.head q) = rw q p.0
+colored_in (d ∷ es) p e (Memᴰ.tail m) = colored_in es p.1 e m
+colored_in [] p e x3 = elim x3 [ ]
 
 pub name_colored : (e : Named) → Memᴰ e named_colors → color_named e.name ≡ Some e.color
 name_colored e m = colored_in named_colors all_colored e m

@@ -10,7 +10,7 @@ use lib.Dec.{eqb}
 use lib.ListN.{length, get_or}
 use lib.Seq.{drop-cons}
 use Rattle.base.specs.Bytes.{Bytes}
-use Rattle.base.specs.Choice.{pick}
+use Rattle.base.specs.Choice.{pick, different}
 use Rattle.utf8.specs.Elim.{on-Char}
 use Rattle.utf8.specs.Utf8.{char_at, char_of, by_row, gathered, fits}
 use Rattle.utf8.specs.declared.Char.{Char}
@@ -55,19 +55,13 @@ abbrev Missed : Bytes → Cursor → Result (ℕ × Cursor) Cursor → Type 0
 Missed s c (Err d) = Behind s c d
 Missed s c (Ok (k, d)) = Unit {0}
 
-not_bad : (k w : ℕ) → Bad ≡ Code k w → ⊥
-not_bad k w q = let z : ◌≡◌ {A = ℕ} 0 1 = cc in omega arith
-
-not_end : (k w : ℕ) → End ≡ Code k w → ⊥
-not_end k w q = let z : ◌≡◌ {A = ℕ} 0 1 = cc in omega arith
-
 pub missed : (s : Bytes) (c d : Cursor) → next_char s c ≡ Err d → Behind s c d
 unfolding next_char on-Char
 missed s c d e = subst (Missed s c) e (go (char_at s c.at) refl)
   where
     go : (r : Char) → char_at s c.at ≡ r → Missed s c (on-Char r (Err (passed c c.at false)) (Err (passed c c.at false)) λ k w. Ok (k, passed c (c.at + w) (eqb k 10)))
-    go Bad q = record { quiet = λ k w m. not_bad k w (sym q ∙ m); behind = refl }
-    go End q = record { quiet = λ k w m. not_end k w (sym q ∙ m); behind = refl }
+    go Bad q = record { quiet = λ k w m. different cc; behind = refl }
+    go End q = record { quiet = λ k w m. different cc; behind = refl }
     go (Code k w) q = tt
 
 pub read_within : (s : Bytes) (c d : Cursor) (k : ℕ) → Read s c k d → (c.at < d.at) × (d.at ≤ length s)

@@ -54,6 +54,7 @@ impl Cursor {
     }
 
     // One character on: the character after a newline begins a line.
+    #[tactic(auto, unfolding(base::specs::Choice::pick, crate::specs::Cursor::passed))]
     fn passed(self, to: usize, newline: bool) -> Self
         ensures { result ≡ passed self to newline }
     {
@@ -81,7 +82,7 @@ fn peek(s: &[u8], at: usize) -> Char
     }
     let b = s[at];
     if b <= 0x7F {
-        return Char::Code(b as u32, 1);
+        return Char::Code(u32::from(b), 1);
     }
     char_at(s, at)
 }
@@ -116,11 +117,12 @@ pub fn can_continue_identifier(k: u32) -> bool
 }
 
 // Rust's char::to_digit, for a radix up to 36.
+#[tactic(auto, unfolding(base::specs::Choice::pick, crate::specs::Class::to_digit))]
 pub fn to_digit(k: u32, radix: u8) -> Option<u8>
     ensures { result ≡ to_digit k radix }
 {
     let v = digit_value(k);
-    if v < radix { Some(v) } else { None }
+    (v < radix).then_some(v)
 }
 
 // The value of a digit or letter, and 255 for any other character.

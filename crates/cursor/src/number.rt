@@ -67,6 +67,7 @@ impl Sum {
     }
 
     // The whole part and the fraction.
+    #[tactic(auto, unfolding(base::specs::Choice::pick, crate::specs::Number::size))]
     fn size(self) -> f64
         ensures { result ≡ size self }
     {
@@ -76,6 +77,7 @@ impl Sum {
         self.whole + self.fraction / pow_ten(self.places)
     }
 
+    #[tactic(auto, unfolding(crate::specs::Number::value))]
     pub fn value(self, minus: bool) -> f64
         ensures { result ≡ value self minus }
     {
@@ -83,6 +85,7 @@ impl Sum {
     }
 }
 
+#[tactic(auto, unfolding(base::specs::Choice::pick, crate::specs::Number::sign))]
 fn sign(minus: bool) -> f64
     ensures { result ≡ sign minus }
 {
@@ -93,7 +96,7 @@ fn sign(minus: bool) -> f64
 fn add_digit(number: f64, digit: u8) -> f64
     ensures { result ≡ add_digit number digit }
 {
-    10.0 * number + (digit as f64)
+    10.0 * number + f64::from(digit)
 }
 
 // 10 to the n: result × base on a set bit, from the low bit on, then base × base while bits remain.
@@ -113,6 +116,7 @@ pub fn pow_ten(n: usize) -> f64
     }
 }
 
+#[tactic(auto, unfolding(base::specs::Choice::pick, crate::specs::Number::times_odd))]
 fn times_odd(n: usize, res: f64, base: f64) -> f64
     ensures { result ≡ times_odd n res base }
 {

@@ -1,10 +1,11 @@
 -- Entries of the tables read back from their words: a key, a test, a layer name, a selector, a value.
-use Prim.Native.Nat.{ℕ, zero, suc, ◌+◌, ◌-◌, ◌%◌, ◌<◌, ◌≤◌}
+use Prim.Native.Nat.{ℕ, suc, ◌+◌, ◌-◌, ◌%◌, ◌<◌, ◌≤◌}
 use native.Mathlib.Numerals.{add-one}
 use native.Mathlib.Omega.{arith}
 use mathlib.Core.Path.{◌≡◌, refl, sym, ◌∙◌, ap, ap₂}
 use mathlib.Core.List.{List, [], ◌∷◌, ◌++◌, map}
 use mathlib.Core.Option.{Option, none, some}
+use Rattle.std.proofs.lemmas.List.{map-append}
 use lib.Ieee.{Float}
 use lib.ListN.{length, get_or}
 use Rattle.base.specs.Bytes.{Bytes, within}
@@ -13,7 +14,7 @@ use Rattle.base.specs.Table.{zero_float}
 use Rattle.base.specs.declared.Range.{Range}
 use Rattle.color.specs.declared.Color.{Color}
 use Rattle.sheet.specs.Digits.{digits_for}
-use Rattle.sheet.specs.Sheet.{ObjectType, all, canvas, meta, node, way, area, UnaryTest, exists, not_exists, is_true, is_false, TextTest, equal, not_equal, NumericTest, less, less_or_equal, greater, greater_or_equal, unary as unary', text as text', numeric as numeric'}
+use Rattle.sheet.specs.Sheet.{ObjectType, all, UnaryTest, exists, not_exists, is_true, is_false, TextTest, equal, not_equal, NumericTest, less, less_or_equal, greater, greater_or_equal, unary as unary', text as text', numeric as numeric'}
 use Rattle.table.specs.Value.{word_at, range_at, value_at, word}
 use Rattle.entries.specs.Words.{first_of, joined_word, second_from, second_to, level_word, layer_word, layer_from, layer_to}
 use Rattle.table.specs.declared.Name.{Name}
@@ -26,34 +27,29 @@ use Rattle.input.specs.Text.{Small}
 use Rattle.sound.proofs.Checked.{Row}
 use Rattle.sound.specs.Lies.{Span, Lies}
 use Rattle.decode.specs.Decode.{places, level_at, type_at, key_at, test_at, layer_at}
-use Rattle.decode.proofs.Drawn.{bytes_at, LayerDrawn}
+use Rattle.decode.proofs.Places.{places_on, places_end}
+use Rattle.sound.proofs.Drawn.{bytes_at, LayerDrawn}
 
 -- ---- places
 
 module _ {A : Type 0} (f : ℕ → A) where
-  places_suc : (a k : ℕ) → map f (places a (suc k)) ≡ map f (places a k) ++ (f (a + k) ∷ [])
-  unfolding places
-  places_suc a zero = ap (λ i. f i ∷ []) (omega arith)
-  places_suc a (suc k) =
-      let e : a + 1 + k ≡ a + suc k = omega arith in
-      ap (λ l. f a ∷ l) (places_suc (a + 1) k ∙ ap (λ i. map f (places (a + 1) k) ++ (f i ∷ [])) e)
-
   -- one place more
+  places_suc : (a k b : ℕ) → a + k ≡ b → map f (places a (suc k)) ≡ map f (places a k) ++ (f b ∷ [])
+  places_suc a k b e =
+      ap (map f) (places_on a k)
+      ∙ map-append f (places a k) ((a + k) ∷ [])
+      ∙ ap (λ i. map f (places a k) ++ (f i ∷ [])) e
+
   pub places_more : (a b : ℕ) → a ≤ b → map f (places a (b + 1 - a)) ≡ map f (places a (b - a)) ++ (f b ∷ [])
   places_more a b h =
       let e : b + 1 - a ≡ suc (b - a) = omega arith in
-      let g : a + (b - a) ≡ b = omega arith in
-      ap (λ k. map f (places a k)) e ∙ places_suc a (b - a) ∙ ap (λ i. map f (places a (b - a)) ++ (f i ∷ [])) g
+      ap (λ k. map f (places a k)) e ∙ places_suc a (b - a) b (omega arith)
 
   pub places_next : (n : ℕ) → map f (places 0 (n + 1)) ≡ map f (places 0 n) ++ (f n ∷ [])
-  places_next n =
-      let e : n + 1 ≡ suc n = omega arith in
-      let g : 0 + n ≡ n = omega arith in
-      ap (λ k. map f (places 0 k)) e ∙ places_suc 0 n ∙ ap (λ i. map f (places 0 n) ++ (f i ∷ [])) g
+  places_next n = let e : n + 1 ≡ suc n = omega arith in ap (λ k. map f (places 0 k)) e ∙ places_suc 0 n n (omega arith)
 
   pub places_none : (a : ℕ) → map f (places a (a - a)) ≡ []
-  unfolding places
-  places_none a = let e : a - a ≡ 0 = omega arith in rw e refl
+  places_none a = ap (map f) (places_end a a (omega arith))
 
 -- ---- ranges
 
@@ -74,11 +70,7 @@ range_back t i j r p q h g =
 pub type_back : (o : ObjectType) → type_at (type_number o) ≡ o
 unfolding type_at pick
 type_back all = refl
-type_back canvas = refl
-type_back meta = refl
-type_back node = refl
-type_back way = refl
-type_back area = refl
+type_back o = refl
 
 pub level_back : (n : Option ℕ) → level_at (level_word (level_in n)) ≡ n
 level_back none = refl

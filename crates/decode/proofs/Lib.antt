@@ -1,4 +1,4 @@
-pub mod Drawn
+pub mod Places
 pub mod Entries
 pub mod Begun
 pub mod Spelling

@@ -30,7 +30,7 @@ use Rattle.input.specs.Text.{range_of}
 use Rattle.keep.proofs.Rows.{Even, even_row, rows_append}
 use Rattle.sound.specs.Lies.{Each, none_left, and_then, Span, Lies}
 use Rattle.decode.specs.Decode.{places, places_in, level_at, type_at, test_at, selector_at, value_of, property_at, rule_at}
-use Rattle.decode.proofs.Drawn.{bytes_at, DrawnOnce, TestDrawn, LayerDrawn, SelectorDrawn, ValueDrawn, PropertyDrawn, RuleDrawn, ItemDrawn}
+use Rattle.sound.proofs.Drawn.{bytes_at, DrawnOnce, TestDrawn, LayerDrawn, SelectorDrawn, ValueDrawn, PropertyDrawn, RuleDrawn, ItemDrawn}
 use Rattle.decode.proofs.Entries.{places_more, places_next, places_none, range_back, type_back, level_back, within_back, key_back, unary_back, word_back, digits_back, numeric_back, layer_back, plain_back, joined_back, string_back, color_back, numbers_back, delta_back}
 use Rattle.decode.proofs.Begun.{Starts, row_in, Begins, begins_row, Next, next_there, fresh_there}
 
@@ -70,10 +70,9 @@ module _ (bundle : Bytes) where
 
     -- the number of a test is stored before it
     abbrev Ready : Rows → Test → Type 0
-    Ready ρ (unary o a) = Unit {0}
-    Ready ρ (text o a (plain b)) = Unit {0}
     Ready ρ (text o a (digits x)) = Next ρ x
     Ready ρ (numeric o a x) = Next ρ x
+    Ready ρ x = Unit {0}
 
     new_test :
         (x : Test) (ρ : Rows)
@@ -102,7 +101,7 @@ module _ (bundle : Bytes) where
         let h = r.0 in
         let f = b.few_numbers in
         let p : word_at t i 6 ≡ ρ.tally.number = w.w₆ ∙ omega arith in
-        digits_back bundle short t τ.numbers i a.bytes (key_back bundle short t i (name_shown a) w d.1 ∙ sym d.0) o
+        digits_back bundle short t τ.numbers i a.bytes (key_back bundle short t i (name_shown a) w d.0.1 ∙ sym d.0.0) o
         x w.w₀
         (ap (λ j. get_or τ.numbers j zero_float) p
         ∙ next_there ρ τ x e (begins_row (test_entry (text o a (digits x))) ρ τ b) r)
@@ -121,11 +120,9 @@ module _ (bundle : Bytes) where
 
     -- the numbers of a value are stored before it
     abbrev ReadyValue : Rows → Value → Type 0
-    ReadyValue ρ (word_value a) = Unit {0}
-    ReadyValue ρ (quoted a) = Unit {0}
-    ReadyValue ρ (colored c) = Unit {0}
     ReadyValue ρ (numbers xs) = drop ρ.tally.number ρ.numbers ≡ xs
     ReadyValue ρ (width_delta x) = Next ρ x
+    ReadyValue ρ u = Unit {0}
 
     new_word :
         (a : Name) (τ : Lent) (i : ℕ) (name : Range) (pre : List ℕ)
@@ -464,9 +461,6 @@ module _ (bundle : Bytes) where
           → Good ρ rs ss ts ps
           → Spells (add_rows ρ (value_entries u)) rs ss ts ps × ReadyValue (add_rows ρ (value_entries u)) u
       unfolding add_rows
-      good_value_lem (word_value a) ρ v = (v.0, tt)
-      good_value_lem (quoted a) ρ v = (v.0, tt)
-      good_value_lem (colored c) ρ v = (v.0, tt)
       good_value_lem (numbers xs) ρ v =
           let h = numbers_stored xs ρ in
           let l = v.0.even.numbers in
@@ -475,6 +469,7 @@ module _ (bundle : Bytes) where
             ap₂ (λ (i : ℕ) (xs : List Float). drop i xs) h.1 h.0 ∙ drop_at ρ.numbers xs ρ.tally.number (omega arith),
           )
       good_value_lem (width_delta x) ρ v = (spells_number x ρ v.0, next_number x ρ v.0.even v.1)
+      good_value_lem u ρ v = (v.0, tt)
 
       good_properties :
           (qs : List Property) (ρ : Rows) (ps : Properties')

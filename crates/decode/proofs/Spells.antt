@@ -21,7 +21,7 @@ use Rattle.sound.proofs.Passing.{few}
 use Rattle.decode.specs.Decode.{rules_at}
 use Rattle.decode.specs.Spells.{TablesSpell}
 use Rattle.decode.proofs.Begun.{Begins}
-use Rattle.decode.proofs.Drawn.{ItemDrawn, reading_drawn}
+use Rattle.sound.proofs.Drawn.{ItemDrawn, reading_drawn}
 use Rattle.decode.proofs.Spelling.{Spells, reading_spells}
 
 -- the tables of a reading begin with its rows

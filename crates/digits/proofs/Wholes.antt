@@ -229,9 +229,6 @@ whole_nan nan h = rw unsigned_nan
 whole_nan (inf s) h = clash (sym h) refl
 whole_nan (fin s m e) h = clash (sym h) refl
 
-pub not_nan : (x : Float) → false ≡ is_nan x → T (not (is_nan x))
-not_nan x h = subst (λ b. T (not b)) h tt
-
 pub whole_number_lem : (x : Float) → is_whole x ≡ true → T (not (is_nan x))
 unfolding is_whole whole is_nan
 whole_number_lem nan h = clash (rw unsigned_nan at h) refl

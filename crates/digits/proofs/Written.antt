@@ -1,14 +1,13 @@
 -- Decimal digits: from the last one on as the code compares them, and what they spell.
-use Rattle.std.proofs.Common.{◌≡◌, ℕ, zero, suc, ◌+◌, ◌-◌, ◌*◌, ◌/◌, ◌%◌, ◌<◌, ◌≤◌, Bool, true, false, ◌&&◌, eqb, ltb, [], ◌∷◌, ◌++◌, length, get_or, take, drop, sym, refl, ap, ◌∙◌, ap₂, div-add-mod', arith, length-append, length-take, take-suc, ltb-false, ltb-true, le-ltb, lt-ltb, eq-eqb, ne_eqb}
+use Rattle.std.proofs.Common.{◌≡◌, ℕ, zero, suc, ◌+◌, ◌-◌, ◌*◌, ◌/◌, ◌%◌, ◌<◌, ◌≤◌, false, ◌&&◌, eqb, ltb, [], ◌∷◌, ◌++◌, length, get_or, take, sym, refl, ap, ◌∙◌, ap₂, div-add-mod', arith, length-append, length-take, take-suc, ltb-false, ltb-true, le-ltb, lt-ltb, eq-eqb, ne_eqb}
 use native.Mathlib.Nat.{add-sub_cancel_left}
 use mathlib.Core.Bool.{and-true, and-false}
 use mathlib.Core.List.{foldl, foldl-append}
-use lib.Ieee.{Float}
 use Rattle.base.specs.Bytes.{Bytes, same}
 use Rattle.base.specs.Choice.{pick, by-test}
 use Rattle.base.proofs.Compare.{same_lengths}
 use Rattle.cascade.specs.Number.{spelt}
-use Rattle.sheet.specs.Digits.{has_minus, size_of, is_whole, digits_in, natural_digits, digits_for}
+use Rattle.sheet.specs.Digits.{digits_in, natural_digits}
 
 -- the bound does not matter
 tenth : (n f : ℕ) → n < suc f → 10 ≤ n → n / 10 < f
@@ -120,42 +119,9 @@ module _ (v : Bytes) (i n : ℕ) where
           (step s
           ∙ (rw (eq-eqb (get_or v (i - 1) 0) (48 + n % 10) h) (and-true (same (take (i - 1) v) (natural_digits (n / 10))))))
 
--- ---- with the sign
+-- ---- of no number
 
-module _ (v : Bytes) (x : Float) (w : Bool) (W : w ≡ is_whole x) where
-  whole_is : {b : Bool} → w ≡ b → is_whole x ≡ b
-  whole_is h = sym W ∙ h
-
-  pub digits_none : w ≡ false → eqb (length v) 0 ≡ same v (digits_for x)
-  unfolding digits_for pick same
-  digits_none h = rw (whole_is h) (go v)
-    where
-      go : (v : Bytes) → eqb (length v) 0 ≡ same v []
-      go [] = refl
-      go (b ∷ v) = ne_eqb (length (b ∷ v)) 0 (λ z. omega arith)
-
-  module _ (h : w ≡ true) (n : ℕ) (N : n ≡ size_of x) (s : Bool) (S : s ≡ has_minus x) where
-    pub digits_plus : (r : Bool) → s ≡ false → r ≡ same v (natural_digits n) → r ≡ same v (digits_for x)
-    unfolding digits_for pick
-    digits_plus r p q = rw (whole_is h, sym S ∙ p, sym N) q
-
-    module _ (p : s ≡ true) where
-      minus_is : digits_for x ≡ 45 ∷ natural_digits n
-      unfolding digits_for pick
-      minus_is = rw (whole_is h, sym S ∙ p, sym N)
-
-      pub digits_minus : (t : Bytes) (r : Bool) → get_or v 0 0 ≡ 45 → t ≡ drop 1 v → r ≡ same t (natural_digits n) → r ≡ same v (digits_for x)
-      unfolding same
-      digits_minus t r q T e = rw minus_is (e ∙ ap (λ (k : Bytes). same k (natural_digits n)) T ∙ go v q)
-        where
-          go : (v : Bytes) → get_or v 0 0 ≡ 45 → same (drop 1 v) (natural_digits n) ≡ same v (45 ∷ natural_digits n)
-          go [] q = absurd (omega arith)
-          go (y ∷ v) q = rw (eq-eqb y 45 q)
-
-      pub digits_sign : (get_or v 0 0 ≡ 45 → ⊥) → false ≡ same v (digits_for x)
-      unfolding same
-      digits_sign q = rw minus_is (go v q)
-        where
-          go : (v : Bytes) → (get_or v 0 0 ≡ 45 → ⊥) → false ≡ same v (45 ∷ natural_digits n)
-          go [] q = refl
-          go (y ∷ v) q = rw (ne_eqb y 45 q)
+pub same_none : (v : Bytes) → same v [] ≡ eqb (length v) 0
+unfolding same
+same_none [] = refl
+same_none (b ∷ v) = sym (ne_eqb (length (b ∷ v)) 0 (λ z. omega arith))

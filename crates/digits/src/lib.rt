@@ -13,13 +13,11 @@ pub fn is_whole(x: f64) -> bool
         return false;
     }
     let a = without_sign(x);
-    if a < 9007199254740992.0 {
-        return std::num::truncating_f64_to_u64(a) as f64 == a;
-    }
-    false
+    a < 9007199254740992.0 && std::num::truncating_f64_to_u64(a) as f64 == a
 }
 
 // Whether a text is the decimal digits of a whole number; of any other number it is no text.
+#[tactic(auto, unfolding(sheet::specs::Digits::digits_for, base::specs::Choice::pick, base::specs::Bytes::same), using(crate::proofs::Wholes::whole_number_lem, crate::proofs::Written::same_none))]
 pub fn is_digits_of(v: &[u8], x: f64) -> bool
     ensures { result ≡ same v.now (digits_for x) }
 {
@@ -33,7 +31,7 @@ pub fn is_digits_of(v: &[u8], x: f64) -> bool
         }
         return is_natural(v, n);
     }
-    v.len() == 0
+    v.is_empty()
 }
 
 // Whether the sign bit is set.

@@ -1,6 +1,6 @@
 -- Laws of the two lists, one for each way through the code, over plain lists and numbers.
-use Prim.Native.Nat.{ℕ, ◌≤◌}
-use mathlib.Core.Path.{◌≡◌, sym, ◌∙◌, ap, ap₂}
+use Prim.Native.Nat.{ℕ, ◌+◌, ◌-◌, ◌≤◌}
+use mathlib.Core.Path.{◌≡◌, sym, ◌∙◌, subst, ap, ap₂}
 use mathlib.Core.Bool.{Bool, true, false}
 use mathlib.Core.List.{List, [], ◌++◌}
 use native.Mathlib.Omega.{arith}
@@ -20,8 +20,11 @@ use Rattle.cascade.specs.Sort.{sort}
 use Rattle.style.specs.declared.Settings.{Settings}
 use Rattle.order.specs.declared.Key.{Key}
 use Rattle.order.specs.Keys.{key_le}
-use Rattle.drawing.specs.Gather.{Gathered, stopped, gathered, on-Gathered, gather_of}
+use borrow.Rule.Slice.PartMut.{put_mid, same_len_mid}
+use Rattle.drawing.specs.Gather.{IsBounded, Gathered, stopped, gathered, on-Gathered, gather_of}
 use Rattle.drawing.specs.Lists.{room_of, entries_of, listed, ordered, nodes_of, areas_of}
+use Rattle.drawing.proofs.GatherLaws as gather
+use Rattle.drawing.proofs.StreamLaws.{behind, gather_behind}
 use Rattle.drawing.proofs.ListLaws.{length_sort}
 use Rattle.drawing.specs.declared.Drawing.{Drawing}
 use Rattle.std.specs.Prelude.{Result, Ok, Err}
@@ -39,6 +42,36 @@ zeros len z e h = e ∙ sym (ap (λ n. replicate n 0) h)
 -- the first n of 4096
 pub part_length : {A : Type 0} (z : A) (n : ℕ) → n ≤ 4096 → length (take n (replicate 4096 z)) ≡ n
 part_length z n h = length-take-le n (replicate 4096 z) (rw (length-replicate 4096 z) h)
+
+-- what a gather counts is there
+pub counted_within : (t u : List Key) (r : Result ℕ Refusal) (n : ℕ) → IsBounded (length t) r → r ≡ Ok n → length u ≡ length t → n ≤ length u
+counted_within t u r n b e l = let d = subst (IsBounded (length t)) e b in omega arith
+
+-- a second gather, behind the first w of the keys
+module _ (keys : List Key) (w : ℕ) (h : w ≤ length keys) where
+  abbrev rest : List Key
+  rest = take (length keys - w) (drop w keys)
+
+  pub gathered_behind :
+      (sort : Sort) (multipolygons : Bool) (s : Bytes) (d e : Drawing)
+      → d ≡ e
+      → behind (take w keys) (gathered_by (length rest) sort multipolygons s [] d)
+      ≡ gathered_by (length keys) sort multipolygons s (take w keys) e
+  gathered_behind sort multipolygons s d e q =
+      gather_behind (take w keys) (length keys) (length rest)
+      (omega (arith, length-take-le w keys h, gather.part_length keys w h))
+      d.tables.now.bundle.now d.tables.now.rules.now d.tables.now.selectors.now d.tables.now.tests.now
+      d.tables.now.properties.now d.tables.now.numbers.now d.total d.zoom d.for_labels sort multipolygons s
+      ∙ ap (gathered_by (length keys) sort multipolygons s (take w keys)) q
+
+  pub both_long :
+      (us : List Key) (m : ℕ)
+      → m ≤ length us
+      → length us ≡ length rest
+      → length (take (w + m) (put_mid w (length keys - w) keys us)) ≡ w + m
+  both_long us m b e =
+      length-take-le (w + m) (put_mid w (length keys - w) keys us)
+      (omega (arith, b, e, same_len_mid w (length keys - w) keys us e, gather.part_length keys w h))
 
 -- ---- the answer and the list
 

@@ -12,7 +12,7 @@ use lib.Seq.{length-take-le, take-append-add}
 use Rattle.std.proofs.lemmas.List.{take-append-le}
 use borrow.Author.Tests.{ltb-true, ltb-false, lt-ltb, le-ltb}
 use Rattle.base.specs.Bytes.{Bytes}
-use Rattle.base.specs.Choice.{pick, by-test, via, via_with}
+use Rattle.base.specs.Choice.{pick, by-test, via, via_with, different}
 use Rattle.base.specs.Refusal.{of_entity}
 use Rattle.base.specs.Turns.{Turn, more, done}
 use Rattle.base.specs.declared.refusal.Refusal.{Refusal}
@@ -68,12 +68,6 @@ module _
 
 -- ---- an entity that is read ends behind its start and within the stream
 
-bad_next : {A : Type 0} {x : Refusal} {r : EntityRange} → Err x ≡ Ok (Some r) → A
-bad_next e = absurd (let z : ◌≡◌ {A = ℕ} 0 1 = cc in omega arith)
-
-no_next : {A : Type 0} {r : EntityRange} → ◌≡◌ {A = Result (Option EntityRange) Refusal} (Ok None) (Ok (Some r)) → A
-no_next e = absurd (let z : ◌≡◌ {A = ℕ} 0 1 = cc in omega arith)
-
 pub next_end :
     (sort : Sort) (multipolygons : Bool) (s : Bytes) (at place : ℕ) (r : EntityRange)
     → next_of sort multipolygons s at place ≡ Ok (Some r)
@@ -81,13 +75,13 @@ pub next_end :
 unfolding next_of on_option pick
 next_end sort multipolygons s at place r e =
     by-test (ltb 1048576 (length s))
-    (λ a. bad_next (rw a at e))
+    (λ a. let z = rw a at e in different cc)
     (λ a.
     by-test (leb (length s) at)
-    (λ b. no_next (rw (a, b) at e))
+    (λ b. let z = rw (a, b) at e in different cc)
     (λ b.
     by_option (entity_at sort s at)
-    (λ c. bad_next (rw (a, b, c) at e))
+    (λ c. let z = rw (a, b, c) at e in different cc)
     (λ x c.
     by-test (all_utf8 (tags_of s x))
     (λ d.
@@ -95,7 +89,7 @@ next_end sort multipolygons s at place r e =
     let z : x ≡ r = cc in
     let h = end_there sort s at r (c ∙ ap Some z) in
     (h.0, h.1, ltb-false 1048576 (length s) a))
-    (λ d. bad_next (rw (a, b, c, d) at e)))))
+    (λ d. let z = rw (a, b, c, d) at e in different cc))))
 
 -- ---- a stream
 
@@ -149,7 +143,7 @@ module _ (t : List Key) (m : ℕ) (h : m ≤ length t) where
       (sym (take-append-add (take m t) (u ++ r) k)
       ∙ ap (λ n. take (n + k) (take m t ++ (u ++ r))) (length-take-le m t h))
 
-abbrev spot : ℕ → ℕ → List Key → Spot
+abbrev pub spot : ℕ → ℕ → List Key → Spot
 spot at place ks = record { at = at; place = place; keys = ks }
 
 module _

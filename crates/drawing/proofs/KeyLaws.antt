@@ -1,7 +1,7 @@
 -- Laws of keys, one for each way through the code, over plain lists and numbers.
-use Prim.Native.Nat.{ℕ, suc, ◌+◌, ◌-◌, ◌*◌, ◌≤◌, ◌<◌}
-use mathlib.Core.Path.{◌≡◌, sym, ◌∙◌, ap}
-use mathlib.Core.Bool.{Bool, true, false, not}
+use Prim.Native.Nat.{ℕ, zero, suc, ◌+◌, ◌-◌, ◌*◌, ◌≤◌, ◌<◌}
+use mathlib.Core.Path.{◌≡◌, refl, sym, ◌∙◌, ap}
+use mathlib.Core.Bool.{Bool, true, false, not, ◌&&◌}
 use mathlib.Core.List.{List, [], ◌∷◌, ◌++◌, append-nil}
 use native.Mathlib.Omega.{arith}
 use lib.IntN.{ℤ}
@@ -11,16 +11,15 @@ use lib.Seq.{append_snoc, take-suc-set}
 use native.Mathlib.Numerals.{add-one}
 use borrow.Author.Tests.{lt-ltb, le-ltb}
 use Rattle.base.specs.Bytes.{Bytes, same}
-use Rattle.base.specs.Choice.{pick}
+use Rattle.base.specs.Choice.{pick, by-test}
 use Rattle.base.specs.Refusal.{refusal}
 use Rattle.base.specs.declared.refusal.Refusal.{Refusal}
 use Rattle.cascade.specs.Clause.{star}
 use Rattle.cascade.specs.Map.{keep}
 use Rattle.decode.specs.Decode.{places}
-use Rattle.walk.specs.Rows.{numbers_at}
-use Rattle.walk.proofs.LayerLaws.{one_less}
+use Rattle.decode.proofs.Places.{places_step, places_end}
+use Rattle.std.specs.List.{list_any, range_with_len}
 use Rattle.walk.specs.Selectors.{layer_in}
-use Rattle.style.specs.Style.{z_index_in}
 use Rattle.styles.specs.Styles.{styled_rows}
 use Rattle.order.specs.declared.Key.{Key}
 use Rattle.drawing.specs.Gather.{Gathered, stopped, gathered, z_of, key_of, keys_from, any_nan, push}
@@ -39,58 +38,37 @@ module _ (bundle : Bytes) (selectors t : List ℕ) (m : ℕ) where
   rows_start = let e : m - 0 ≡ m = omega arith in ap (λ k. keep keeps (places 0 k)) e
 
   rows_end : (i : ℕ) → m ≤ i → rows i ≡ []
-  unfolding keep places
-  rows_end i h = let e : m - i ≡ 0 = omega arith in ap (λ k. keep keeps (places i k)) e
+  unfolding keep
+  rows_end i h = ap (keep keeps) (places_end i m h)
 
   module _ (i : ℕ) (h : i < m) (r : Bool) (q : r ≡ keeps i) where
     rows_skip : r ≡ false → rows i ≡ rows (i + 1)
-    unfolding keep places
-    rows_skip y = ap (λ k. keep keeps (places i k)) (one_less i m h) ∙ rw (← q, y)
+    unfolding keep
+    rows_skip y = ap (keep keeps) (places_step i m h) ∙ rw (← q, y)
 
     rows_take : r ≡ true → rows i ≡ i ∷ rows (i + 1)
-    unfolding keep places
-    rows_take y = ap (λ k. keep keeps (places i k)) (one_less i m h) ∙ rw (← q, y)
+    unfolding keep
+    rows_take y = ap (keep keeps) (places_step i m h) ∙ rw (← q, y)
 
 -- ---- a z-index that is NaN
 
-module _
-    (bundle : Bytes) (selectors properties : List ℕ) (numbers : List Float) (t : List ℕ) (m kind : ℕ) where
-  abbrev pub nan_left : ℕ → Bool
-  nan_left i = any_nan bundle properties numbers t kind (rows bundle selectors t m i)
+module _ (bundle : Bytes) (selectors properties : List ℕ) (numbers : List Float) (t : List ℕ) (m kind : ℕ) where
+  abbrev pub is_nan_at : ℕ → Bool
+  is_nan_at i = keeps bundle selectors t m i && is_nan (z_of bundle properties numbers t kind i)
 
-  abbrev pub nan_all : Bool
-  nan_all = any_nan bundle properties numbers t kind (styled_rows bundle selectors t m)
-
-  pub nan_start : nan_left 0 ≡ nan_all
-  nan_start = ap (any_nan bundle properties numbers t kind) (rows_start bundle selectors t m)
-
-  pub nan_end : (i : ℕ) → m ≤ i → nan_left i ≡ nan_all → false ≡ nan_all
-  unfolding any_nan
-  nan_end i h q = sym (ap (any_nan bundle properties numbers t kind) (rows_end bundle selectors t m i h)) ∙ q
-
-  module _ (i : ℕ) (h : i < m) (r : Bool) (q : r ≡ keeps bundle selectors t m i) (g : nan_left i ≡ nan_all) where
-    pub nan_skip : r ≡ false → nan_left (i + 1) ≡ nan_all
-    nan_skip y = sym (ap (any_nan bundle properties numbers t kind) (rows_skip bundle selectors t m i h r q y)) ∙ g
-
-    module _ (y : r ≡ true) (row : List ℕ) (u : row ≡ numbers_at t i) (z : Float)
-        (v : z ≡ z_index_in bundle properties numbers row kind) where
-      z_is : z ≡ z_of bundle properties numbers t kind i
-      z_is = v ∙ ap (λ r. z_index_in bundle properties numbers r kind) u
-
-      first : pick (is_nan z) true (nan_left (i + 1)) ≡ nan_all
-      unfolding any_nan
-      first =
-          ap (λ z. pick (is_nan z) true (nan_left (i + 1))) z_is
-          ∙ sym (ap (any_nan bundle properties numbers t kind) (rows_take bundle selectors t m i h r q y))
-          ∙ g
-
-      pub nan_found : is_nan z ≡ true → true ≡ nan_all
-      unfolding pick
-      nan_found x = sym (ap (λ b. pick b true (nan_left (i + 1))) x) ∙ first
-
-      pub nan_next : is_nan z ≡ false → nan_left (i + 1) ≡ nan_all
-      unfolding pick
-      nan_next x = sym (ap (λ b. pick b true (nan_left (i + 1))) x) ∙ first
+  pub nan_among :
+      (a n : ℕ)
+      → list_any is_nan_at (range_with_len a n)
+      ≡ any_nan bundle properties numbers t kind (keep (keeps bundle selectors t m) (places a n))
+  unfolding any_nan keep places pick
+  nan_among a zero = refl
+  nan_among a (suc n) =
+      by-test (keeps bundle selectors t m a)
+      (λ e.
+      by-test (is_nan (z_of bundle properties numbers t kind a))
+      (λ q. rw (e, q))
+      (λ q. rw (e, q, nan_among (a + 1) n)))
+      (λ e. rw (e, nan_among (a + 1) n))
 
 -- ---- keys behind those so far
 

@@ -13,31 +13,12 @@ use Rattle.base.proofs.Tables.{padded_entry}
 use Rattle.cascade.specs.Sort.{place, sort}
 use Rattle.cascade.proofs.SortLaws.{sort_map}
 use Rattle.decode.specs.Decode.{places}
+use Rattle.decode.proofs.Places.{length_places, places_on}
 use Rattle.order.specs.declared.Key.{Key}
 use Rattle.order.specs.Keys.{zero_key, key_at, key_le, number_le}
 use Rattle.drawing.specs.Lists.{entry_words, entry_at, entries_of}
 
 -- ---- places
-
-length_places : (a k : ℕ) → length (places a k) ≡ k
-unfolding places
-length_places a zero = refl
-length_places a (suc k) = ap suc (length_places (a + 1) k)
-
-places_append : (a k m : ℕ) → places a (k + m) ≡ places a k ++ places (a + k) m
-unfolding places
-places_append a zero m =
-    let e : zero + m ≡ m = omega arith in
-    let g : a + zero ≡ a = omega arith in
-    rw (e, g)
-places_append a (suc k) m =
-    let e : suc k + m ≡ suc (k + m) = omega arith in
-    let g : a + 1 + k ≡ a + suc k = omega arith in
-    ap (places a) e ∙ ap (λ l. a ∷ l) (places_append (a + 1) k m ∙ ap (λ i. places (a + 1) k ++ places i m) g)
-
-places_more : (a k : ℕ) → places a (k + 1) ≡ places a k ++ ((a + k) ∷ [])
-unfolding places
-places_more a k = places_append a k 1
 
 -- numbers counted, i of them so far
 pub count_more :
@@ -49,7 +30,8 @@ count_more t from i h =
     ap (λ r. set (places from i ++ r) i (from + i)) (drop-cons t i 0 h)
     ∙ set_at (places from i) (get_or t i 0) (drop (suc i) t) (from + i) i (length_places from i)
     ∙ sym (append_snoc (places from i) (from + i) (drop (suc i) t))
-    ∙ ap₂ (λ (l : List ℕ) (k : ℕ). l ++ drop k t) (sym (places_more from i)) (sym e)
+    ∙ ap (λ l. l ++ drop (suc i) t) (sym (places_on from i))
+    ∙ ap (λ k. places from k ++ drop k t) (sym e)
 
 -- ---- entries written, those of the first i numbers so far
 

@@ -19,11 +19,9 @@ use Rattle.entity.specs.Layout.{next_of}
 use Rattle.entity.specs.declared.EntityRange.{EntityRange}
 use Rattle.entity.specs.declared.Sort.{Sort}
 use Rattle.order.specs.declared.Key.{Key}
+use Rattle.drawing.proofs.GatherLaws.{spot}
 use Rattle.drawing.specs.Gather.{Gathered, stopped, gathered, on-Gathered, push, Spot, entity_keys, gather_turn, gather_of}
 use Rattle.std.specs.Prelude.{Option, Some, None, Result, Ok, Err}
-
-abbrev spot : ℕ → ℕ → List Key → Spot
-spot at place ks = record { at = at; place = place; keys = ks }
 
 module _ (ws : List Key) where
   abbrev pub behind : Gathered → Gathered

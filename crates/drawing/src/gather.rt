@@ -6,6 +6,7 @@ use crate::Drawing;
 use base::refusal::{NAN_Z_INDEX, Refusal};
 use entity::{Entity, Sort, StreamPlace, next_entity};
 use order::Key;
+use walk::maps::{Maps, ROW};
 use walk::walk_entity;
 
 impl Drawing<'_> {
@@ -14,7 +15,7 @@ impl Drawing<'_> {
         &self,
         entity: Entity,
         place: StreamPlace,
-        maps: &mut [u32; 4323],
+        maps: &mut Maps,
         keys: &mut [Key],
     ) -> Result<usize, Refusal>
         ensures keys_after { told result keys.new ≡ push (length keys.old) [] (entity_keys self.now.tables.now.bundle.now self.now.tables.now.rules.now self.now.tables.now.selectors.now self.now.tables.now.tests.now self.now.tables.now.properties.now self.now.tables.now.numbers.now self.now.total self.now.zoom self.now.for_labels place.multipolygons entity.entry.bytes.now entity.entry.range place.place) }
@@ -38,7 +39,7 @@ impl Drawing<'_> {
         ensures keys_after { told result keys.new ≡ gather_of self.now.tables.now.bundle.now self.now.tables.now.rules.now self.now.tables.now.selectors.now self.now.tables.now.tests.now self.now.tables.now.properties.now self.now.tables.now.numbers.now self.now.total self.now.zoom self.now.for_labels (length keys.old) sort multipolygons s.now [] }
         ensures IsBounded { IsBounded (length keys.old) result }
     {
-        let mut maps = [0u32; 4323];
+        let mut maps = [0u32; 33 * ROW];
         let mut m: usize = 0;
         let mut at: usize = 0;
         let mut place = StreamPlace {

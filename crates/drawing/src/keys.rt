@@ -12,22 +12,16 @@ use entity::{Entity, EntityRange, StreamPlace};
 use order::Key;
 use style::Row;
 use styles::parts::{is_styled, tag_layer};
-use walk::maps::Layers;
+use walk::maps::{Layers, Maps};
 
 impl Drawing<'_> {
     // Whether the z-index of a styled layer, of the first m of a table of maps, is NaN.
-    pub fn any_nan(&self, maps: &[u32; 4323], m: Layers, kind: u8) -> bool
+    pub fn any_nan(&self, maps: &Maps, m: Layers, kind: u8) -> bool
         ensures { result ≡ any_nan self.now.tables.now.bundle.now self.now.tables.now.properties.now self.now.tables.now.numbers.now maps.now kind (styled_rows self.now.tables.now.bundle.now self.now.tables.now.selectors.now maps.now m) }
     {
-        for i in 0..m.n {
-            if !is_styled(self.tables, maps, i) {
-                continue;
-            }
-            if Row::at(self.tables, maps, i).z_index(kind).is_nan() {
-                return true;
-            }
-        }
-        false
+        (0..m.n).any(|i| {
+            is_styled(self.tables, maps, i) && Row::at(self.tables, maps, i).z_index(kind).is_nan()
+        })
     }
 
     // Stores the keys of the styled layers of an entity, where there is room for them, and says how many.
@@ -35,7 +29,7 @@ impl Drawing<'_> {
         &self,
         entity: Entity,
         place: StreamPlace,
-        maps: &[u32; 4323],
+        maps: &Maps,
         m: Layers,
         keys: &mut [Key],
     ) -> Result<usize, Refusal>
@@ -63,7 +57,7 @@ impl Drawing<'_> {
         e: EntityRange,
         place: StreamPlace,
         layer: Option<i64>,
-        maps: &[u32; 4323],
+        maps: &Maps,
         i: usize,
         k: usize,
     ) -> Key

@@ -68,12 +68,11 @@ impl StreamPlace {
 }
 
 // Checks a single entity of any kind: its layout (refusal 7), then its UTF-8 (refusal 2).
+#[tactic(auto, unfolding(base::specs::Choice::pick, crate::specs::Layout::single_of, crate::specs::Layout::tags_of, base::specs::Option::on_option))]
 pub fn single_entity(s: &[u8]) -> Result<EntityRange, Refusal>
     ensures { result ≡ single_of s.now }
 {
-    let Some(e) = entity_at(s, 0, Sort::Any) else {
-        return Err(ALONE.refuse(ENTITY_LAYOUT));
-    };
+    let e = entity_at(s, 0, Sort::Any).ok_or(ALONE.refuse(ENTITY_LAYOUT))?;
     if e.end != s.len() {
         return Err(ALONE.refuse(ENTITY_LAYOUT));
     }
@@ -84,6 +83,7 @@ pub fn single_entity(s: &[u8]) -> Result<EntityRange, Refusal>
 }
 
 // The next entity of a stream, behind byte `at`, checked as a single one is; None at the end.
+#[tactic(auto, unfolding(base::specs::Choice::pick, crate::specs::Layout::next_of, crate::specs::Layout::tags_of, base::specs::Option::on_option))]
 pub fn next_entity(
     s: &[u8],
     sort: Sort,
@@ -98,9 +98,7 @@ pub fn next_entity(
     if s.len() <= at {
         return Ok(None);
     }
-    let Some(e) = entity_at(s, at, sort) else {
-        return Err(place.refuse(ENTITY_LAYOUT));
-    };
+    let e = entity_at(s, at, sort).ok_or(place.refuse(ENTITY_LAYOUT))?;
     if (Entity { bytes: s, range: e }).tags().are_utf8() {
         return Ok(Some(e));
     }
@@ -124,6 +122,7 @@ pub fn nth_entity(s: &[u8], sort: Sort, k: usize) -> Option<Range>
 }
 
 // The layout of the entity at a place: kind, id, tag count, tags.
+#[tactic(auto, unfolding(base::specs::Choice::pick, crate::specs::Layout::entity_at, base::specs::Option::on_option))]
 pub fn entity_at(s: &[u8], at: usize, sort: Sort) -> Option<EntityRange>
     ensures { result ≡ entity_at sort s.now at }
 {
@@ -131,7 +130,7 @@ pub fn entity_at(s: &[u8], at: usize, sort: Sort) -> Option<EntityRange>
     if !kind_fits(sort, kind) {
         return None;
     }
-    let (id, next) = group::number_at(s, at + 1, 18446744073709551615)?;
+    let (id, next) = group::number_at(s, at + 1, u64::MAX)?;
     tags_at(s, at, kind, id, next)
 }
 
@@ -147,6 +146,7 @@ fn kind_fits(sort: Sort, kind: u8) -> bool
 }
 
 // The tags of the entity at a place, from its tag count on.
+#[tactic(auto, unfolding(crate::specs::Layout::tags_at, base::specs::Option::on_option))]
 fn tags_at(s: &[u8], at: usize, kind: u8, id: u64, from: usize) -> Option<EntityRange>
     ensures { result ≡ tags_at s.now at kind id from }
 {
@@ -167,16 +167,14 @@ fn tags_at(s: &[u8], at: usize, kind: u8, id: u64, from: usize) -> Option<Entity
 }
 
 // An entity has at most 65,536 bytes, and its keys rise.
+#[tactic(auto, unfolding(base::specs::Choice::pick, crate::specs::Layout::closed_of, crate::specs::Layout::tags_of))]
 fn closed(s: &[u8], at: usize, e: EntityRange) -> Option<EntityRange>
     ensures { result ≡ closed_of s.now at e }
 {
     if 65536 < e.end.saturating_sub(at) {
         return None;
     }
-    if keys_rise(Entity { bytes: s, range: e }.tags()) {
-        return Some(e);
-    }
-    None
+    keys_rise(Entity { bytes: s, range: e }.tags()).then_some(e)
 }
 
 // Whether the keys of tags rise strictly, bytewise.

@@ -1,5 +1,5 @@
 -- The words of each entry. docs/TABLES.md shows them as a page.
-use Rattle.std.specs.Prelude.{ℕ, ◌+◌, List, [], ◌∷◌, Option, Some, None}
+use Rattle.std.specs.Prelude.{ℕ, ◌+◌, List, [], ◌∷◌, Option, Some, None, get_or}
 use Rattle.base.specs.declared.Range.{Range}
 use Rattle.color.specs.declared.Color.{Color}
 use Rattle.table.specs.Value.{word}
@@ -78,6 +78,10 @@ test_words kind key a b =
 abbrev pub property_words : ℕ → Range → ℕ → ℕ → ℕ → ℕ → List ℕ
 property_words kind name a b c d =
     kind ∷ word name.from ∷ word name.to ∷ word a ∷ word b ∷ word c ∷ word d ∷ 0 ∷ []
+
+-- the same with the four words in one list
+abbrev pub property_row : ℕ → Range → List ℕ → List ℕ
+property_row kind name v = property_words kind name (get_or v 0 0) (get_or v 1 0) (get_or v 2 0) (get_or v 3 0)
 
 -- a colour is of kind 1; the last two words are room
 abbrev pub color_words : Range → Color → List ℕ

@@ -4,7 +4,7 @@
 ghost use Rattle.std.specs.Prelude.{◌≡◌, ◌<◌, [], ◌∷◌, length};
 ghost use Rattle.table.specs.Value.{word};
 ghost use Rattle.entries.specs.Put.{put_of};
-ghost use Rattle.entries.specs.Words.{level_word, first_of, second_of, layer_word, layer_from, layer_to, rule_words, selector_words, test_words, property_words, color_words};
+ghost use Rattle.entries.specs.Words.{level_word, first_of, second_of, layer_word, layer_from, layer_to, rule_words, selector_words, test_words, property_row, color_words};
 
 use base::{Range, store_all};
 use color::Color;
@@ -145,13 +145,11 @@ pub fn put_property(
     n: usize,
     kind: u8,
     name: Range,
-    a: usize,
-    b: usize,
-    c: usize,
-    d: usize,
+    value: [usize; 4],
 ) -> Option<usize>
-    ensures { (result, t.new) ≡ put_of 8 t.old n (property_words kind name a b c d) }
+    ensures { (result, t.new) ≡ put_of 8 t.old n (property_row kind name value) }
 {
+    let [a, b, c, d] = value;
     put_entry(
         t,
         n,

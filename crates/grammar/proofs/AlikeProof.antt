@@ -9,7 +9,7 @@ use Rattle.std.proofs.Math.ListN.{length-append}
 use Rattle.base.specs.Bytes.{ascii, same}
 use Rattle.color.specs.declared.Color.{Color}
 use Rattle.sheet.specs.Sheet.{TextTest, NumericTest}
-use Rattle.grammar.specs.Token.{Name, joined, Sign, Token, import, identifier, string, color_ref, number, zoom_range, color, sign, right_bracket, left_bracket, left_brace, right_brace, bang, question_mark, colon, double_colon, semi_colon, comma}
+use Rattle.grammar.specs.Token.{Name, joined, Sign, Token, import, identifier, string, color_ref, number, zoom_range, color, right_bracket, left_bracket, left_brace, right_brace, bang, question_mark, colon, double_colon, semi_colon, comma}
 use Rattle.grammar.specs.View.{is_sign, on_import, on_identifier, on_string, on_color_ref, on_number, on_zoom_range, on_color, color_of}
 use Rattle.grammar.specs.Reading.{Test, Selector, Property, rule_item, Reading, Colors, color_named, property, bare, with_zoom, with_test, with_layer, id_to_object_type}
 use Rattle.grammar.specs.Input.{Entry, rule_entry, selector_entry, test_entry, property_entry, number_entry, color_entry, full, Store, Next, broken, end, token, Input, over, Answer, refused, read, on_next, on_option, after, keep}
@@ -75,13 +75,7 @@ module _ {C T U P R : Type 0} (i : Input C T P R) (g : C → ℕ) (z : Store U) 
         → Alike Rel (on_import t f g) (on_import t h k)
     unfolding on_import
     import_alike (import x) m n = m x
-    import_alike (identifier x) m n = n
-    import_alike (string x) m n = n
-    import_alike (color_ref x) m n = n
-    import_alike (number x) m n = n
-    import_alike (zoom_range x y) m n = n
-    import_alike (color x) m n = n
-    import_alike (sign x) m n = n
+    import_alike t m n = n
 
     identifier_alike :
         (t : Token) {f : Name → Answer A C T R} {g : Answer A C T R} {h : Name → Answer A C U R} {k : Answer A C U R}
@@ -89,14 +83,8 @@ module _ {C T U P R : Type 0} (i : Input C T P R) (g : C → ℕ) (z : Store U) 
         → Alike Rel g k
         → Alike Rel (on_identifier t f g) (on_identifier t h k)
     unfolding on_identifier
-    identifier_alike (import x) m n = n
     identifier_alike (identifier x) m n = m x
-    identifier_alike (string x) m n = n
-    identifier_alike (color_ref x) m n = n
-    identifier_alike (number x) m n = n
-    identifier_alike (zoom_range x y) m n = n
-    identifier_alike (color x) m n = n
-    identifier_alike (sign x) m n = n
+    identifier_alike t m n = n
 
     string_alike :
         (t : Token) {f : Name → Answer A C T R} {g : Answer A C T R} {h : Name → Answer A C U R} {k : Answer A C U R}
@@ -104,14 +92,8 @@ module _ {C T U P R : Type 0} (i : Input C T P R) (g : C → ℕ) (z : Store U) 
         → Alike Rel g k
         → Alike Rel (on_string t f g) (on_string t h k)
     unfolding on_string
-    string_alike (import x) m n = n
-    string_alike (identifier x) m n = n
     string_alike (string x) m n = m x
-    string_alike (color_ref x) m n = n
-    string_alike (number x) m n = n
-    string_alike (zoom_range x y) m n = n
-    string_alike (color x) m n = n
-    string_alike (sign x) m n = n
+    string_alike t m n = n
 
     color_ref_alike :
         (t : Token) {f : Name → Answer A C T R} {g : Answer A C T R} {h : Name → Answer A C U R} {k : Answer A C U R}
@@ -119,14 +101,8 @@ module _ {C T U P R : Type 0} (i : Input C T P R) (g : C → ℕ) (z : Store U) 
         → Alike Rel g k
         → Alike Rel (on_color_ref t f g) (on_color_ref t h k)
     unfolding on_color_ref
-    color_ref_alike (import x) m n = n
-    color_ref_alike (identifier x) m n = n
-    color_ref_alike (string x) m n = n
     color_ref_alike (color_ref x) m n = m x refl
-    color_ref_alike (number x) m n = n
-    color_ref_alike (zoom_range x y) m n = n
-    color_ref_alike (color x) m n = n
-    color_ref_alike (sign x) m n = n
+    color_ref_alike t m n = n
 
     number_alike :
         (t : Token) {f : Float → Answer A C T R} {g : Answer A C T R} {h : Float → Answer A C U R} {k : Answer A C U R}
@@ -134,14 +110,8 @@ module _ {C T U P R : Type 0} (i : Input C T P R) (g : C → ℕ) (z : Store U) 
         → Alike Rel g k
         → Alike Rel (on_number t f g) (on_number t h k)
     unfolding on_number
-    number_alike (import x) m n = n
-    number_alike (identifier x) m n = n
-    number_alike (string x) m n = n
-    number_alike (color_ref x) m n = n
     number_alike (number x) m n = m x
-    number_alike (zoom_range x y) m n = n
-    number_alike (color x) m n = n
-    number_alike (sign x) m n = n
+    number_alike t m n = n
 
     zoom_alike :
         (t : Token) {f : Option ℕ → Option ℕ → Answer A C T R} {g : Answer A C T R}
@@ -150,14 +120,8 @@ module _ {C T U P R : Type 0} (i : Input C T P R) (g : C → ℕ) (z : Store U) 
         → Alike Rel g k
         → Alike Rel (on_zoom_range t f g) (on_zoom_range t h k)
     unfolding on_zoom_range
-    zoom_alike (import x) m n = n
-    zoom_alike (identifier x) m n = n
-    zoom_alike (string x) m n = n
-    zoom_alike (color_ref x) m n = n
-    zoom_alike (number x) m n = n
     zoom_alike (zoom_range x y) m n = m x y
-    zoom_alike (color x) m n = n
-    zoom_alike (sign x) m n = n
+    zoom_alike t m n = n
 
     color_alike :
         (t : Token) {f : Color → Answer A C T R} {g : Answer A C T R} {h : Color → Answer A C U R} {k : Answer A C U R}
@@ -165,14 +129,8 @@ module _ {C T U P R : Type 0} (i : Input C T P R) (g : C → ℕ) (z : Store U) 
         → Alike Rel g k
         → Alike Rel (on_color t f g) (on_color t h k)
     unfolding on_color
-    color_alike (import x) m n = n
-    color_alike (identifier x) m n = n
-    color_alike (string x) m n = n
-    color_alike (color_ref x) m n = n
-    color_alike (number x) m n = n
-    color_alike (zoom_range x y) m n = n
     color_alike (color x) m n = m x
-    color_alike (sign x) m n = n
+    color_alike t m n = n
 
     tint_alike :
         (t : Token) {f : Answer A C T R} {g : Color → Answer A C T R} {h : Answer A C U R} {k : Color → Answer A C U R}
@@ -180,14 +138,8 @@ module _ {C T U P R : Type 0} (i : Input C T P R) (g : C → ℕ) (z : Store U) 
         → ((x : Color) → t ≡ color x → Alike Rel (g x) (k x))
         → Alike Rel (on_option (color_of t) f g) (on_option (color_of t) h k)
     unfolding color_of on_color on_option
-    tint_alike (import x) m n = m
-    tint_alike (identifier x) m n = m
-    tint_alike (string x) m n = m
-    tint_alike (color_ref x) m n = m
-    tint_alike (number x) m n = m
-    tint_alike (zoom_range x y) m n = m
     tint_alike (color x) m n = n x refl
-    tint_alike (sign x) m n = m
+    tint_alike t m n = m
 
   -- ---- fuel: a token less is left behind each token
 

@@ -11,7 +11,7 @@ use Rattle.base.specs.Choice.{by-test, different}
 use Rattle.color.specs.declared.Color.{Color}
 use Rattle.grammar.specs.Token.{Name, Token}
 use Rattle.grammar.specs.Reading.{Reading, Colors, define, color_named}
-use Rattle.grammar.specs.Input.{Entry, rule_entry, selector_entry, test_entry, property_entry, number_entry, color_entry, table_of, Input, read}
+use Rattle.grammar.specs.Input.{Entry, color_entry, table_of, Input, read}
 use Rattle.grammar.specs.Reader.{load}
 use Rattle.grammar.specs.Entries.{entries_of, one, count, tint, tints}
 use Rattle.grammar.specs.Capacity.{Tables, tables, empty, add, add_all, tables_of, taken, stores, room, limited, Bounded, Fits}
@@ -62,41 +62,25 @@ further_most e τ k = by-test (eqb 6 k) (λ p. rw p (omega arith)) (λ p. rw (p,
 
 add_grows : (e : Entry) (τ : Tables) (k : ℕ) → taken k τ ≤ taken k (add τ e)
 unfolding add
-add_grows rule_entry τ k = further_grows rule_entry τ k
-add_grows (selector_entry s) τ k = further_grows (selector_entry s) τ k
-add_grows (test_entry t) τ k = further_grows (test_entry t) τ k
-add_grows (property_entry p) τ k = further_grows (property_entry p) τ k
-add_grows (number_entry x) τ k = further_grows (number_entry x) τ k
 add_grows (color_entry n c) τ k = by-test (eqb 6 k) (λ p. rw p (define_grows τ.colors n c)) (λ p. rw p (omega arith))
+add_grows e τ k = further_grows e τ k
 
 add_other : (e : Entry) (τ : Tables) (k : ℕ) → eqb (table_of e) k ≡ false → taken k (add τ e) ≡ taken k τ
 unfolding add
-add_other rule_entry τ k p = further_other rule_entry τ k p
-add_other (selector_entry s) τ k p = further_other (selector_entry s) τ k p
-add_other (test_entry t) τ k p = further_other (test_entry t) τ k p
-add_other (property_entry x) τ k p = further_other (property_entry x) τ k p
-add_other (number_entry x) τ k p = further_other (number_entry x) τ k p
 add_other (color_entry n c) τ k p = rw p refl
+add_other e τ k p = further_other e τ k p
 
 add_most : (e : Entry) (τ : Tables) (k : ℕ) → taken k (add τ e) ≤ suc (taken k τ)
 unfolding add
-add_most rule_entry τ k = further_most rule_entry τ k
-add_most (selector_entry s) τ k = further_most (selector_entry s) τ k
-add_most (test_entry t) τ k = further_most (test_entry t) τ k
-add_most (property_entry p) τ k = further_most (property_entry p) τ k
-add_most (number_entry x) τ k = further_most (number_entry x) τ k
 add_most (color_entry n c) τ k = by-test (eqb 6 k) (λ p. rw p (define_most τ.colors n c)) (λ p. rw p (omega arith))
+add_most e τ k = further_most e τ k
 
 -- ---- the colours that entries leave
 
 pub add_tints : (e : Entry) (τ : Tables) → (add τ e).colors ≡ tint τ.colors e
 unfolding add
-add_tints rule_entry τ = refl
-add_tints (selector_entry s) τ = refl
-add_tints (test_entry t) τ = refl
-add_tints (property_entry p) τ = refl
-add_tints (number_entry x) τ = refl
 add_tints (color_entry n c) τ = refl
+add_tints e τ = refl
 
 all_tint : (es : List Entry) (τ : Tables) → (add_all τ es).colors ≡ tints τ.colors es
 unfolding add_all tints
@@ -110,12 +94,8 @@ add_counts :
     → eqb 6 k ≡ false
     → count k (add τ e).entries ≡ count k τ.entries + one (eqb (table_of e) k)
 unfolding add
-add_counts rule_entry τ k p = last_count rule_entry τ.entries k
-add_counts (selector_entry s) τ k p = last_count (selector_entry s) τ.entries k
-add_counts (test_entry t) τ k p = last_count (test_entry t) τ.entries k
-add_counts (property_entry x) τ k p = last_count (property_entry x) τ.entries k
-add_counts (number_entry x) τ k p = last_count (number_entry x) τ.entries k
 add_counts (color_entry n c) τ k p = rw p (omega arith)
+add_counts e τ k p = last_count e τ.entries k
 
 all_count : (es : List Entry) (τ : Tables) (k : ℕ) → eqb 6 k ≡ false → count k (add_all τ es).entries ≡ count k τ.entries + count k es
 unfolding add_all count

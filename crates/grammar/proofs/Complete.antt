@@ -44,11 +44,8 @@ not_colors : (a : Bytes) (y : ObjectType) → id_to_object_type a ≡ some y →
 unfolding id_to_object_type same
 not_colors a y e =
     by-test (same a (ascii "colors"))
-    (λ z. let q : ◌≡◌ {A = Option ObjectType} none (some y) = rw (same_true a (ascii "colors") z) at e in none_some q)
+    (λ z. let q : ◌≡◌ {A = Option ObjectType} none (some y) = rw (same_true a (ascii "colors") z) at e in different cc)
     (λ z. z)
-  where
-    none_some : {x : ObjectType} {A : Type 0} → none ≡ some x → A
-    none_some q = different cc
 
 module _ {C T P R : Type 0} (i : Input C T P R) where
   -- the only token, the only entry

@@ -3,7 +3,7 @@ use Rattle.std.specs.Prelude.{ℕ, zero, suc, ◌+◌, ◌≤◌, ◌<◌, ◌�
 use Rattle.std.proofs.Common.{arith, ne_eqb}
 use mathlib.Core.List.{List, [], ◌∷◌, ◌++◌}
 use Rattle.std.proofs.Math.ListN.{length}
-use Rattle.grammar.specs.Reading.{plain, digits, Test, unary, text, numeric, Value, word, quoted, colored, numbers, width_delta, Selector, Property, Rule, rule_item, color_item, Reading, rules_of}
+use Rattle.grammar.specs.Reading.{plain, digits, Test, unary, text, numeric, Value, numbers, width_delta, Selector, Property, Rule, rule_item, color_item, Reading, rules_of}
 use Rattle.grammar.specs.Input.{Entry, rule_entry, selector_entry, property_entry}
 use Rattle.grammar.specs.Entries.{test_entries, tests_entries, numbers_entries, value_entries, properties_entries, selectors_entries, rule_entries, entries_of, one, count}
 use Rattle.grammar.specs.Capacity.{stores, Bounded}
@@ -61,11 +61,9 @@ module _ (k : ℕ) where
 
   value_counts : (v : Value) → count k (value_entries v) ≡ gate (eqb 5 k) (value_numbers v)
   unfolding count
-  value_counts (word a) = let z = gate_zero (eqb 5 k) in omega (arith, z)
-  value_counts (quoted a) = let z = gate_zero (eqb 5 k) in omega (arith, z)
-  value_counts (colored c) = let z = gate_zero (eqb 5 k) in omega (arith, z)
   value_counts (numbers xs) = numbers_count xs
   value_counts (width_delta x) = let z = gate_one (eqb 5 k) in omega (arith, z)
+  value_counts v = let z = gate_zero (eqb 5 k) in omega (arith, z)
 
   properties_count :
       (ps : List Property)

@@ -21,6 +21,14 @@ use Rattle.grammar.specs.Texts.{Bundle, Place, Cursor, cursor, text_named, liste
 use Rattle.grammar.proofs.TextsProof.{sound, accepts_all, accepts_none, has_all, has_none}
 use Rattle.grammar.specs.Spelling.{name, nought, black, tokens}
 
+-- what every text below runs through
+reader : Unit {0}
+unfolding same lookup text_named is_sign on_import on_identifier on_string on_color_ref on_number on_zoom_range on_color color_of
+    on_next on_option after to_binary_string_test_type to_binary_numeric_test_type width_increment is_colors plain_test
+    bang_test read_test read_number_list tokens_to_semi_colon read_simple_eval read_property_value read_properties read_parts
+    read_selector skip_colors read_rule parse import_file load define color_named id_to_object_type add
+reader = tt
+
 -- ---- has, and has not
 
 pub record Stumble : Type 0 where
@@ -81,10 +89,7 @@ module _ (countable : Float → Bool) where
       )
 
   all_judged : judged stumbles ≡ true
-  unfolding same lookup text_named is_sign on_import on_identifier on_string on_color_ref on_number on_zoom_range on_color color_of
-      on_next on_option after to_binary_string_test_type to_binary_numeric_test_type width_increment is_colors plain_test
-      bang_test read_test read_number_list tokens_to_semi_colon read_simple_eval read_property_value read_properties read_parts
-      read_selector skip_colors read_rule parse import_file load define color_named id_to_object_type add
+  unfolding reader
   all_judged = refl
 
   pub examples : Holds stumbles
@@ -94,113 +99,74 @@ module _ (countable : Float → Bool) where
 
   -- a later zoom range replaces the earlier
   pub later_zoom : HasReading countable [] (tokens "way |1 |2 { }") (rule_item (rule (record { object_type = way; min_zoom = some 2; max_zoom = some 2; tests = []; layer_id = none } ∷ []) []) ∷ [])
-  unfolding same lookup text_named is_sign on_import on_identifier on_string on_color_ref on_number on_zoom_range on_color color_of
-      on_next on_option after to_binary_string_test_type to_binary_numeric_test_type width_increment is_colors plain_test
-      bang_test read_test read_number_list tokens_to_semi_colon read_simple_eval read_property_value read_properties read_parts
-      read_selector skip_colors read_rule parse import_file load define color_named id_to_object_type add
+  unfolding reader
   later_zoom = sound countable [] _ _ _ _ refl
 
   -- :class is dropped
   pub class_dropped : HasReading countable [] (tokens "way : a { }") (rule_item (rule (bare way ∷ []) []) ∷ [])
-  unfolding same lookup text_named is_sign on_import on_identifier on_string on_color_ref on_number on_zoom_range on_color color_of
-      on_next on_option after to_binary_string_test_type to_binary_numeric_test_type width_increment is_colors plain_test
-      bang_test read_test read_number_list tokens_to_semi_colon read_simple_eval read_property_value read_properties read_parts
-      read_selector skip_colors read_rule parse import_file load define color_named id_to_object_type add
+  unfolding reader
   class_dropped = sound countable [] _ _ _ _ refl
 
   -- [x?!] is [!x?]
   pub question_bang :
       HasReading countable [] (tokens "way [ x ? ! ] { }") (rule_item (rule (with_test (bare way) (unary is_false (name "x")) ∷ []) []) ∷ [])
-  unfolding same lookup text_named is_sign on_import on_identifier on_string on_color_ref on_number on_zoom_range on_color color_of
-      on_next on_option after to_binary_string_test_type to_binary_numeric_test_type width_increment is_colors plain_test
-      bang_test read_test read_number_list tokens_to_semi_colon read_simple_eval read_property_value read_properties read_parts
-      read_selector skip_colors read_rule parse import_file load define color_named id_to_object_type add
+  unfolding reader
   question_bang = sound countable [] _ _ _ _ refl
 
   -- colors ends the rule, with the selectors read before it and no properties
   pub colors_rule :
       HasReading countable [] (tokens "way :: x , colors { a : b ; }") (rule_item (rule (with_layer (bare way) (name "x") ∷ []) []) ∷ [])
-  unfolding same lookup text_named is_sign on_import on_identifier on_string on_color_ref on_number on_zoom_range on_color color_of
-      on_next on_option after to_binary_string_test_type to_binary_numeric_test_type width_increment is_colors plain_test
-      bang_test read_test read_number_list tokens_to_semi_colon read_simple_eval read_property_value read_properties read_parts
-      read_selector skip_colors read_rule parse import_file load define color_named id_to_object_type add
+  unfolding reader
   colors_rule = sound countable [] _ _ _ _ refl
 
   -- a definition that is no colour has no effect
   pub no_effect : HasReading countable [] (tokens "@c : } ;") []
-  unfolding same lookup text_named is_sign on_import on_identifier on_string on_color_ref on_number on_zoom_range on_color color_of
-      on_next on_option after to_binary_string_test_type to_binary_numeric_test_type width_increment is_colors plain_test
-      bang_test read_test read_number_list tokens_to_semi_colon read_simple_eval read_property_value read_properties read_parts
-      read_selector skip_colors read_rule parse import_file load define color_named id_to_object_type add
+  unfolding reader
   no_effect = sound countable [] _ _ _ _ refl
 
   -- marked case 9
   pub delta_nought :
       HasReading countable [] (tokens "{ casing-width : eval ( prop ( 'width ) ) ; }") (rule_item (rule [] (property (name "casing-width") (width_delta nought) ∷ [])) ∷ [])
-  unfolding same lookup text_named is_sign on_import on_identifier on_string on_color_ref on_number on_zoom_range on_color color_of
-      on_next on_option after to_binary_string_test_type to_binary_numeric_test_type width_increment is_colors plain_test
-      bang_test read_test read_number_list tokens_to_semi_colon read_simple_eval read_property_value read_properties read_parts
-      read_selector skip_colors read_rule parse import_file load define color_named id_to_object_type add
+  unfolding reader
   delta_nought = sound countable [] _ _ _ _ refl
 
   -- marked case 12
   pub nothing_read : HasReading countable [] [] []
-  unfolding same lookup text_named is_sign on_import on_identifier on_string on_color_ref on_number on_zoom_range on_color color_of
-      on_next on_option after to_binary_string_test_type to_binary_numeric_test_type width_increment is_colors plain_test
-      bang_test read_test read_number_list tokens_to_semi_colon read_simple_eval read_property_value read_properties read_parts
-      read_selector skip_colors read_rule parse import_file load define color_named id_to_object_type add
+  unfolding reader
   nothing_read = sound countable [] _ _ _ _ refl
 
   -- ---- refusals: the reason, the text and the character, each token being two characters wide
 
   -- marked case 6: the place reached by reading the end
   pub cut_short : read_bundle countable [] (tokens "way") ≡ refused (end_of_file, (0, 3)) empty
-  unfolding same lookup text_named is_sign on_import on_identifier on_string on_color_ref on_number on_zoom_range on_color color_of
-      on_next on_option after to_binary_string_test_type to_binary_numeric_test_type width_increment is_colors plain_test
-      bang_test read_test read_number_list tokens_to_semi_colon read_simple_eval read_property_value read_properties read_parts
-      read_selector skip_colors read_rule parse import_file load define color_named id_to_object_type add
+  unfolding reader
   cut_short = refl
 
   -- marked case 7: behind the reference
   pub not_a_color :
       read_bundle countable [] (tokens "@a : red ; way { color : @a ; }") ≡ refused (color_reference, (0, 18)) (tables (selector_entry (bare way) ∷ []) [])
-  unfolding same lookup text_named is_sign on_import on_identifier on_string on_color_ref on_number on_zoom_range on_color color_of
-      on_next on_option after to_binary_string_test_type to_binary_numeric_test_type width_increment is_colors plain_test
-      bang_test read_test read_number_list tokens_to_semi_colon read_simple_eval read_property_value read_properties read_parts
-      read_selector skip_colors read_rule parse import_file load define color_named id_to_object_type add
+  unfolding reader
   not_a_color = refl
 
   -- an eval form: at the word, once its semicolon is read
   pub bad_eval : read_bundle countable [] (tokens "{ a : eval x ; }") ≡ refused (eval_form, (0, 7)) empty
-  unfolding same lookup text_named is_sign on_import on_identifier on_string on_color_ref on_number on_zoom_range on_color color_of
-      on_next on_option after to_binary_string_test_type to_binary_numeric_test_type width_increment is_colors plain_test
-      bang_test read_test read_number_list tokens_to_semi_colon read_simple_eval read_property_value read_properties read_parts
-      read_selector skip_colors read_rule parse import_file load define color_named id_to_object_type add
+  unfolding reader
   bad_eval = refl
 
   -- without its semicolon the form is not judged
   pub eval_cut_short : read_bundle countable [] (tokens "{ a : eval x }") ≡ refused (end_of_file, (0, 13)) empty
-  unfolding same lookup text_named is_sign on_import on_identifier on_string on_color_ref on_number on_zoom_range on_color color_of
-      on_next on_option after to_binary_string_test_type to_binary_numeric_test_type width_increment is_colors plain_test
-      bang_test read_test read_number_list tokens_to_semi_colon read_simple_eval read_property_value read_properties read_parts
-      read_selector skip_colors read_rule parse import_file load define color_named id_to_object_type add
+  unfolding reader
   eval_cut_short = refl
 
   -- an object type: at its first character
   pub bad_type :
       read_bundle countable [] (tokens "way , x { }") ≡ refused (object_type, (0, 5)) (tables (selector_entry (bare way) ∷ []) [])
-  unfolding same lookup text_named is_sign on_import on_identifier on_string on_color_ref on_number on_zoom_range on_color color_of
-      on_next on_option after to_binary_string_test_type to_binary_numeric_test_type width_increment is_colors plain_test
-      bang_test read_test read_number_list tokens_to_semi_colon read_simple_eval read_property_value read_properties read_parts
-      read_selector skip_colors read_rule parse import_file load define color_named id_to_object_type add
+  unfolding reader
   bad_type = refl
 
   -- another token expected: at its first character
   pub not_expected : read_bundle countable [] (tokens "{ a b ; }") ≡ refused (expected, (0, 5)) empty
-  unfolding same lookup text_named is_sign on_import on_identifier on_string on_color_ref on_number on_zoom_range on_color color_of
-      on_next on_option after to_binary_string_test_type to_binary_numeric_test_type width_increment is_colors plain_test
-      bang_test read_test read_number_list tokens_to_semi_colon read_simple_eval read_property_value read_properties read_parts
-      read_selector skip_colors read_rule parse import_file load define color_named id_to_object_type add
+  unfolding reader
   not_expected = refl
 
   -- ---- imports: nine texts in a chain load, the tenth is 21 in text 8, an unknown name is 5 there too
@@ -214,24 +180,15 @@ module _ (countable : Float → Bool) where
       (ascii "9") (tokens "{ }") ∷ []
 
   pub nine_texts : read_bundle countable (chain "{ }") (tokens "&1 ;") ≡ read (rule_item (rule [] []) ∷ []) (cursor 0 5 []) (tables (rule_entry ∷ []) [])
-  unfolding same lookup text_named is_sign on_import on_identifier on_string on_color_ref on_number on_zoom_range on_color color_of
-      on_next on_option after to_binary_string_test_type to_binary_numeric_test_type width_increment is_colors plain_test
-      bang_test read_test read_number_list tokens_to_semi_colon read_simple_eval read_property_value read_properties read_parts
-      read_selector skip_colors read_rule parse import_file load define color_named id_to_object_type add
+  unfolding reader
   nine_texts = refl
 
   pub ten_texts : read_bundle countable (chain "&9 ; { }") (tokens "&1 ;") ≡ refused (too_deep, (8, 4)) empty
-  unfolding same lookup text_named is_sign on_import on_identifier on_string on_color_ref on_number on_zoom_range on_color color_of
-      on_next on_option after to_binary_string_test_type to_binary_numeric_test_type width_increment is_colors plain_test
-      bang_test read_test read_number_list tokens_to_semi_colon read_simple_eval read_property_value read_properties read_parts
-      read_selector skip_colors read_rule parse import_file load define color_named id_to_object_type add
+  unfolding reader
   ten_texts = refl
 
   pub unknown_text : read_bundle countable (chain "&x ; { }") (tokens "&1 ;") ≡ refused (no_text, (8, 4)) empty
-  unfolding same lookup text_named is_sign on_import on_identifier on_string on_color_ref on_number on_zoom_range on_color color_of
-      on_next on_option after to_binary_string_test_type to_binary_numeric_test_type width_increment is_colors plain_test
-      bang_test read_test read_number_list tokens_to_semi_colon read_simple_eval read_property_value read_properties read_parts
-      read_selector skip_colors read_rule parse import_file load define color_named id_to_object_type add
+  unfolding reader
   unknown_text = refl
 
   -- ---- the moments of storing: tables with room for as many entries as the function says
@@ -246,81 +203,51 @@ module _ (countable : Float → Bool) where
   -- a listed number is stored before the next token is read
   pub listed_at_once :
       loaded countable (numbers_only 1) (tokens "{ d : 0 , 0 ; }") ≡ refused (full (number_entry nought), (0, 12)) (tables (number_entry nought ∷ []) [])
-  unfolding same lookup text_named is_sign on_import on_identifier on_string on_color_ref on_number on_zoom_range on_color color_of
-      on_next on_option after to_binary_string_test_type to_binary_numeric_test_type width_increment is_colors plain_test
-      bang_test read_test read_number_list tokens_to_semi_colon read_simple_eval read_property_value read_properties read_parts
-      read_selector skip_colors read_rule parse import_file load define color_named id_to_object_type add count
+  unfolding reader count
   listed_at_once = refl
 
   pub listed_before_end : loaded countable (numbers_only 0) (tokens "{ d : 0") ≡ refused (full (number_entry nought), (0, 8)) empty
-  unfolding same lookup text_named is_sign on_import on_identifier on_string on_color_ref on_number on_zoom_range on_color color_of
-      on_next on_option after to_binary_string_test_type to_binary_numeric_test_type width_increment is_colors plain_test
-      bang_test read_test read_number_list tokens_to_semi_colon read_simple_eval read_property_value read_properties read_parts
-      read_selector skip_colors read_rule parse import_file load define color_named id_to_object_type add count
+  unfolding reader count
   listed_before_end = refl
 
   -- at one token: the grammar's own judgement, then 6, then the number, then the entry itself
   pub judged_first : loaded countable (λ k. 0) (tokens "way [ a < 0 x") ≡ refused (expected, (0, 11)) empty
-  unfolding same lookup text_named is_sign on_import on_identifier on_string on_color_ref on_number on_zoom_range on_color color_of
-      on_next on_option after to_binary_string_test_type to_binary_numeric_test_type width_increment is_colors plain_test
-      bang_test read_test read_number_list tokens_to_semi_colon read_simple_eval read_property_value read_properties read_parts
-      read_selector skip_colors read_rule parse import_file load define color_named id_to_object_type add count
+  unfolding reader count
   judged_first = refl
 
   pub six_first : loaded (λ x. false) (λ k. 0) (tokens "way [ a = 0 ] {") ≡ refused (not_whole, (0, 12)) empty
-  unfolding same lookup text_named is_sign on_import on_identifier on_string on_color_ref on_number on_zoom_range on_color color_of
-      on_next on_option after to_binary_string_test_type to_binary_numeric_test_type width_increment is_colors plain_test
-      bang_test read_test read_number_list tokens_to_semi_colon read_simple_eval read_property_value read_properties read_parts
-      read_selector skip_colors read_rule parse import_file load define color_named id_to_object_type add count
+  unfolding reader count
   six_first = refl
 
   pub number_first : loaded (λ x. true) (λ k. 0) (tokens "way [ a = 0 ] {") ≡ refused (full (number_entry nought), (0, 12)) empty
-  unfolding same lookup text_named is_sign on_import on_identifier on_string on_color_ref on_number on_zoom_range on_color color_of
-      on_next on_option after to_binary_string_test_type to_binary_numeric_test_type width_increment is_colors plain_test
-      bang_test read_test read_number_list tokens_to_semi_colon read_simple_eval read_property_value read_properties read_parts
-      read_selector skip_colors read_rule parse import_file load define color_named id_to_object_type add count
+  unfolding reader count
   number_first = refl
 
   pub then_the_test :
       loaded (λ x. true) (λ k. cond (eqb k 5) 1 0) (tokens "way [ a = 0 ] {") ≡ refused (full (test_entry (text equal (name "a") (digits nought))), (0, 12)) (tables (number_entry nought ∷ []) [])
-  unfolding same lookup text_named is_sign on_import on_identifier on_string on_color_ref on_number on_zoom_range on_color color_of
-      on_next on_option after to_binary_string_test_type to_binary_numeric_test_type width_increment is_colors plain_test
-      bang_test read_test read_number_list tokens_to_semi_colon read_simple_eval read_property_value read_properties read_parts
-      read_selector skip_colors read_rule parse import_file load define color_named id_to_object_type add count
+  unfolding reader count
   then_the_test = refl
 
   -- a delta at its semicolon, just before its property
   pub delta_first :
       loaded countable (λ k. 0) (tokens "{ a : eval ( prop ( 'width ) ) ; }") ≡ refused (full (number_entry nought), (0, 22)) empty
-  unfolding same lookup text_named is_sign on_import on_identifier on_string on_color_ref on_number on_zoom_range on_color color_of
-      on_next on_option after to_binary_string_test_type to_binary_numeric_test_type width_increment is_colors plain_test
-      bang_test read_test read_number_list tokens_to_semi_colon read_simple_eval read_property_value read_properties read_parts
-      read_selector skip_colors read_rule parse import_file load define color_named id_to_object_type add count
+  unfolding reader count
   delta_first = refl
 
   -- a selector at its comma
   pub selector_at_comma : loaded countable (λ k. 0) (tokens "way , x") ≡ refused (full (selector_entry (bare way)), (0, 4)) empty
-  unfolding same lookup text_named is_sign on_import on_identifier on_string on_color_ref on_number on_zoom_range on_color color_of
-      on_next on_option after to_binary_string_test_type to_binary_numeric_test_type width_increment is_colors plain_test
-      bang_test read_test read_number_list tokens_to_semi_colon read_simple_eval read_property_value read_properties read_parts
-      read_selector skip_colors read_rule parse import_file load define color_named id_to_object_type add count
+  unfolding reader count
   selector_at_comma = refl
 
   -- a colors block takes a rule entry at its closing brace
   pub colors_takes_a_rule : loaded countable (λ k. 0) (tokens "colors { } x") ≡ refused (full rule_entry, (0, 6)) empty
-  unfolding same lookup text_named is_sign on_import on_identifier on_string on_color_ref on_number on_zoom_range on_color color_of
-      on_next on_option after to_binary_string_test_type to_binary_numeric_test_type width_increment is_colors plain_test
-      bang_test read_test read_number_list tokens_to_semi_colon read_simple_eval read_property_value read_properties read_parts
-      read_selector skip_colors read_rule parse import_file load define color_named id_to_object_type add count
+  unfolding reader count
   colors_takes_a_rule = refl
 
   -- a colour at its semicolon, defined anew without an entry
   pub once_for_each_name :
       loaded countable (λ k. 1) (tokens "@a : # ; @a : # ; @b : # ; x") ≡ refused (full (color_entry (name "b") black), (0, 24)) (tables [] (color_def (name "a") black ∷ []))
-  unfolding same lookup text_named is_sign on_import on_identifier on_string on_color_ref on_number on_zoom_range on_color color_of
-      on_next on_option after to_binary_string_test_type to_binary_numeric_test_type width_increment is_colors plain_test
-      bang_test read_test read_number_list tokens_to_semi_colon read_simple_eval read_property_value read_properties read_parts
-      read_selector skip_colors read_rule parse import_file load define color_named id_to_object_type add count
+  unfolding reader count
   once_for_each_name = refl
 
 -- a colour defined anew keeps the place of its first name

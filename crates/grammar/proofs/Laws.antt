@@ -2,12 +2,13 @@
 use Rattle.std.specs.Prelude.{ℕ, ◌≡◌, Bool, true, false, cond, List, [], ◌∷◌, ◌++◌, Float}
 use Rattle.std.proofs.Math.Path.{refl}
 use Rattle.std.proofs.Common.{◌∙◌, ap, subst}
+use Rattle.std.proofs.lemmas.Bool.{cond_both}
 use Rattle.std.proofs.Math.Option.{Option, none, some}
 use Rattle.base.specs.Choice.{different}
 use Rattle.color.specs.declared.Color.{Color}
 use Rattle.grammar.specs.Token.{Name, Sign, Token, import, identifier, string, color_ref, number, zoom_range, color, sign}
 use Rattle.grammar.specs.View.{is_sign, on_sign, on_import, on_identifier, on_string, on_color_ref, on_number, on_zoom_range, on_color}
-use Rattle.grammar.proofs.ViewLaws.{test_holds, sign_holds, import_holds, identifier_holds, string_holds, color_ref_holds, number_holds, zoom_range_holds, color_holds}
+use Rattle.grammar.proofs.ViewLaws.{sign_holds, import_holds, identifier_holds, string_holds, color_ref_holds, number_holds, zoom_range_holds, color_holds}
 use Rattle.grammar.specs.Input.{Entry, Store, over, Next, broken, end, token, Input, Answer, refused, read, on_next, on_option, after, keep}
 use Rattle.grammar.specs.Reader.{read_mandatory_token, expect_simple_token, read_identifier}
 use Rattle.grammar.specs.Stream.{Gives, here, ◌▸◌}
@@ -102,7 +103,7 @@ module _ {A C T R : Type 0} (S : A → C → T → Type 0) where
   option_sound (some x) hf hk = hk x refl
 
   pub test_sound_lem : (b : Bool) {f g : Answer A C T R} → (b ≡ true → Sound f) → (b ≡ false → Sound g) → Sound (cond b f g)
-  test_sound_lem b hf hg = test_holds Sound b _ _ hf hg
+  test_sound_lem b hf hg = cond_both b _ _ Sound hf hg
 
   pub sign_sound :
       (g : Sign) (t : Token) {f h : Answer A C T R}

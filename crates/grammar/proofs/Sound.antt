@@ -3,6 +3,8 @@ use Prim.Native.Nat.{ℕ, zero, suc}
 use Rattle.std.specs.Prelude.{◌≡◌, Bool, true, false, Float}
 use Rattle.std.proofs.Math.Path.{refl, sym, ap}
 use Rattle.std.proofs.Common.{◌∙◌, subst}
+use Rattle.std.proofs.lemmas.Bool.{cond_both}
+use Rattle.std.proofs.lemmas.List.{append-nil}
 use mathlib.Core.List.{List, [], ◌∷◌, ◌++◌, append_assoc}
 use Rattle.std.proofs.Math.Option.{Option, none, some}
 use Rattle.base.specs.Bytes.{Bytes, ascii, same}
@@ -10,10 +12,10 @@ use Rattle.base.specs.Choice.{clash, different}
 use Rattle.base.proofs.Compare.{same_true}
 use Rattle.color.specs.declared.Color.{Color}
 use Rattle.sheet.specs.Sheet.{ObjectType, TextTest, NumericTest}
-use Rattle.grammar.specs.Token.{Name, joined, Sign, Token, import, identifier, string, color_ref, number, zoom_range, color, sign, left_paren, right_paren, left_bracket, right_bracket, left_brace, right_brace, equal_sign, not_equal_sign, less_sign, greater_sign, less_or_equal_sign, greater_or_equal_sign, bang, question_mark, colon, double_colon, semi_colon, comma}
+use Rattle.grammar.specs.Token.{Name, joined, Sign, Token, import, identifier, string, color_ref, number, color, sign, left_paren, right_paren, left_bracket, right_bracket, left_brace, right_brace, equal_sign, not_equal_sign, less_sign, greater_sign, less_or_equal_sign, greater_or_equal_sign, bang, question_mark, colon, double_colon, semi_colon, comma}
 use Rattle.grammar.specs.View.{on_identifier, on_color, color_of}
-use Rattle.grammar.proofs.ViewLaws.{test_holds, sign_holds, identifier_holds, string_holds, number_holds}
-use Rattle.grammar.specs.Reading.{Test, unary, text, numeric, plain, digits, Value, word, quoted, colored, numbers, width_delta, Selector, Property, Rule, rule_item, color_item, Reading, Colors, define, color_named, colors_after, bare, with_zoom, with_test, with_layer, id_to_object_type}
+use Rattle.grammar.proofs.ViewLaws.{sign_holds, identifier_holds, string_holds, number_holds}
+use Rattle.grammar.specs.Reading.{Test, text, plain, Value, numbers, Selector, Property, Rule, rule_item, color_item, Reading, Colors, define, color_named, colors_after, bare, with_zoom, with_test, with_layer, id_to_object_type}
 use Rattle.grammar.specs.Input.{Entry, rule_entry, selector_entry, property_entry, color_entry, token, Input, Answer, read, on_option, keep}
 use Rattle.grammar.specs.Reader.{to_binary_string_test_type, to_binary_numeric_test_type, want, want_word, want_string, suffix, width_increment, is_colors, read_operand, read_number, plain_test, bang_test, read_key, read_test, read_number_list, tokens_to_semi_colon, read_simple_eval, read_property_value, read_properties, read_parts, read_selector, skip_colors, read_rule, definition, keep_color, read_color_def, parse, import_file, load}
 use Rattle.grammar.specs.Grammar.{IsName, single, double, IsKey, named, quoted_key, quoted_double, IsEquality, eq, ne, IsComparison, lt, le, gt, ge, plain_operand, digits_operand, IsTest, there, true_tag, false_tag, missing, untrue, compared, measured, IsNumbers, last_number, more_numbers, IsDelta, zero_delta, some_delta, IsValue, one_word, two_words, a_string, a_color, reference, list, eval, IsProperties, closed, assign, HasParts, nothing, zooms, tested, class, layer, IsSelector, typed, IsSkipped, stop, over, IsRule, body, auxiliary, last_selector, selector_then, finish, a_rule, defined, dropped, imported}
@@ -50,7 +52,7 @@ module _ {B : Type 0} (P : List Token → B → Type 0) where
       → Tells (P ts) (want_word a ts k)
   word_tells a [] k h = none_tells _
   word_tells a (t ∷ ts) k h = identifier_holds (Tells (P (t ∷ ts))) t _ _
-      (λ b q. test_holds (Tells (P (t ∷ ts))) (same b.bytes a) _ _
+      (λ b q. cond_both (same b.bytes a) _ _ (Tells (P (t ∷ ts)))
       (λ z. subst (λ t. Tells (P (t ∷ ts)) (k ts)) (sym q) (h b (same_true b.bytes a z) ts))
       (λ z. none_tells _))
       (none_tells _)
@@ -61,7 +63,7 @@ module _ {B : Type 0} (P : List Token → B → Type 0) where
       → Tells (P ts) (want_string a ts k)
   string_tells a [] k h = none_tells _
   string_tells a (t ∷ ts) k h = string_holds (Tells (P (t ∷ ts))) t _ _
-      (λ b q. test_holds (Tells (P (t ∷ ts))) (same b.bytes a) _ _
+      (λ b q. cond_both (same b.bytes a) _ _ (Tells (P (t ∷ ts)))
       (λ z. subst (λ t. Tells (P (t ∷ ts)) (k ts)) (sym q) (h b (same_true b.bytes a z) ts))
       (λ z. none_tells _))
       (none_tells _)
@@ -111,14 +113,8 @@ comparison_tells t =
 
 colors_tell : (t : Token) → is_colors t ≡ true → (a : Name) × ((t ≡ identifier a) × (a.bytes ≡ ascii "colors"))
 unfolding is_colors on_identifier
-colors_tell (import x) e = clash e refl
 colors_tell (identifier x) e = (x, (refl, same_true x.bytes (ascii "colors") e))
-colors_tell (string x) e = clash e refl
-colors_tell (color_ref x) e = clash e refl
-colors_tell (number x) e = clash e refl
-colors_tell (zoom_range x y) e = clash e refl
-colors_tell (color x) e = clash e refl
-colors_tell (sign x) e = clash e refl
+colors_tell t e = clash e refl
 
 -- ---- the tests that the parts of a selector add
 
@@ -132,11 +128,7 @@ module _ {countable : Float → Bool} where
 
   pub added_is : {σ τ : Selector} {p : List Token} (h : HasParts countable σ p τ) → τ.tests ≡ σ.tests ++ added h
   unfolding added
-  added_is {σ} nothing = sym (append_none σ.tests)
-    where
-      append_none : (ts : List Test) → ts ++ [] ≡ ts
-      append_none [] = refl
-      append_none (t ∷ ts) = ap (λ ts. t ∷ ts) (append_none ts)
+  added_is {σ} nothing = sym (append-nil σ.tests)
   added_is (zooms a b h) = added_is h
   added_is {σ} (tested {x = x} t h) = added_is h ∙ append_assoc σ.tests (x ∷ []) (added h)
   added_is (class a h) = added_is h
@@ -151,10 +143,8 @@ tints_append Γ (e ∷ es) fs = tints_append (tint Γ e) es fs
 
 test_tints : (Γ : Colors) (t : Test) → tints Γ (test_entries t) ≡ Γ
 unfolding tints
-test_tints Γ (unary o a) = refl
 test_tints Γ (text o a (plain b)) = refl
-test_tints Γ (text o a (digits x)) = refl
-test_tints Γ (numeric o a x) = refl
+test_tints Γ t = refl
 
 tests_tint : (Γ : Colors) (ts : List Test) → tints Γ (tests_entries ts) ≡ Γ
 unfolding tints tests_entries
@@ -171,11 +161,8 @@ numbers_tint Γ (x ∷ xs) = numbers_tint Γ xs
 
 value_tints : (Γ : Colors) (v : Value) → tints Γ (value_entries v) ≡ Γ
 unfolding tints
-value_tints Γ (word a) = refl
-value_tints Γ (quoted a) = refl
-value_tints Γ (colored c) = refl
 value_tints Γ (numbers xs) = numbers_tint Γ xs
-value_tints Γ (width_delta x) = refl
+value_tints Γ v = refl
 
 properties_tint : (Γ : Colors) (ps : List Property) → tints Γ (properties_entries ps) ≡ Γ
 unfolding tints properties_entries
@@ -578,13 +565,7 @@ module _ {C T P R : Type 0} (i : Input C T P R) where
       → Sheet i d Γ (color_ref n ∷ sign colon ∷ t ∷ sign semi_colon ∷ p) (definition n t ++ js)
   unfolding color_of on_color on_option colors_after
   definition_is n (color c) h = defined n c h
-  definition_is n (import a) h = dropped n _ refl h
-  definition_is n (identifier a) h = dropped n _ refl h
-  definition_is n (string a) h = dropped n _ refl h
-  definition_is n (color_ref a) h = dropped n _ refl h
-  definition_is n (number x) h = dropped n _ refl h
-  definition_is n (zoom_range a b) h = dropped n _ refl h
-  definition_is n (sign c) h = dropped n _ refl h
+  definition_is n t h = dropped n _ refl h
 
   color_kept :
       {A : Type 0} (S : A → C → T → Type 0) (n : Name) (t : Token) (c : C) (τ : T) {k : T → Answer A C T R}

@@ -2,24 +2,19 @@
 use Rattle.std.specs.Prelude.{◌≡◌, Float}
 use Rattle.std.proofs.Math.Path.{refl}
 use Rattle.std.proofs.Common.{sym, ◌∙◌, ap}
+use Rattle.std.proofs.lemmas.List.{append-nil}
 use mathlib.Core.List.{List, [], ◌∷◌, ◌++◌, append_assoc}
-use Rattle.grammar.specs.Reading.{Test, unary, text, numeric, plain, digits, Value, word, quoted, colored, numbers, width_delta, Selector, Property, Rule, rule, rule_item, color_item, Reading, rules_of}
+use Rattle.grammar.specs.Reading.{Test, text, plain, Value, numbers, Selector, Property, Rule, rule, rule_item, color_item, Reading, rules_of}
 use Rattle.grammar.specs.Input.{Entry, rule_entry, selector_entry, test_entry, property_entry, number_entry, color_entry}
 use Rattle.grammar.specs.Entries.{test_entries, tests_entries, numbers_entries, value_entries, properties_entries, selectors_entries, rule_entries, entries_of}
 use Rattle.grammar.specs.Capacity.{Tables, add, add_all}
 use Rattle.grammar.specs.Spelled.{rules_from, Spelled}
 
-append_none : {A : Type 0} (xs : List A) → xs ++ [] ≡ xs
-append_none [] = refl
-append_none (x ∷ xs) = ap (λ xs. x ∷ xs) (append_none xs)
-
 module _ (ss : List Selector) (ps : List Property) (es : List Entry) where
   test_spells : (t : Test) → rules_from ss ps (test_entries t ++ es) ≡ rules_from ss ps es
   unfolding rules_from
-  test_spells (unary o a) = refl
   test_spells (text o a (plain b)) = refl
-  test_spells (text o a (digits x)) = refl
-  test_spells (numeric o a x) = refl
+  test_spells t = refl
 
   numbers_spell : (xs : List Float) → rules_from ss ps (numbers_entries xs ++ es) ≡ rules_from ss ps es
   unfolding rules_from numbers_entries
@@ -28,11 +23,8 @@ module _ (ss : List Selector) (ps : List Property) (es : List Entry) where
 
   value_spells : (v : Value) → rules_from ss ps (value_entries v ++ es) ≡ rules_from ss ps es
   unfolding rules_from
-  value_spells (word a) = refl
-  value_spells (quoted a) = refl
-  value_spells (colored c) = refl
   value_spells (numbers xs) = numbers_spell xs
-  value_spells (width_delta x) = refl
+  value_spells v = refl
 
 tests_spell :
     (ss : List Selector) (ps : List Property) (es : List Entry) (ts : List Test)
@@ -48,7 +40,7 @@ properties_spell :
     (ss : List Selector) (ps : List Property) (es : List Entry) (qs : List Property)
     → rules_from ss ps (properties_entries qs ++ es) ≡ rules_from ss (ps ++ qs) es
 unfolding rules_from properties_entries
-properties_spell ss ps es [] = ap (λ ps. rules_from ss ps es) (sym (append_none ps))
+properties_spell ss ps es [] = ap (λ ps. rules_from ss ps es) (sym (append-nil ps))
 properties_spell ss ps es (q ∷ qs) =
     ap (rules_from ss ps) (append_assoc (value_entries q.value) (property_entry q ∷ properties_entries qs) es)
     ∙ value_spells ss ps (property_entry q ∷ (properties_entries qs ++ es)) q.value
@@ -59,7 +51,7 @@ selectors_spell :
     (ss : List Selector) (ps : List Property) (es : List Entry) (σs : List Selector)
     → rules_from ss ps (selectors_entries σs es) ≡ rules_from (ss ++ σs) ps es
 unfolding rules_from selectors_entries
-selectors_spell ss ps es [] = ap (λ ss. rules_from ss ps es) (sym (append_none ss))
+selectors_spell ss ps es [] = ap (λ ss. rules_from ss ps es) (sym (append-nil ss))
 selectors_spell ss ps es (σ ∷ σs) =
     tests_spell ss ps (selector_entry σ ∷ selectors_entries σs es) σ.tests
     ∙ selectors_spell (ss ++ (σ ∷ [])) ps es σs
@@ -109,7 +101,7 @@ colorless_spells ss ps (color_entry n c ∷ es) = colorless_spells ss ps es
 
 added_entries : (es : List Entry) (τ : Tables) → (add_all τ es).entries ≡ τ.entries ++ colorless es
 unfolding add_all add colorless
-added_entries [] τ = sym (append_none τ.entries)
+added_entries [] τ = sym (append-nil τ.entries)
 added_entries (rule_entry ∷ es) τ = added_entries es (add τ rule_entry) ∙ append_assoc τ.entries (rule_entry ∷ []) (colorless es)
 added_entries (selector_entry σ ∷ es) τ =
     added_entries es (add τ (selector_entry σ)) ∙ append_assoc τ.entries (selector_entry σ ∷ []) (colorless es)

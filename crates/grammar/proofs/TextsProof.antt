@@ -1,6 +1,8 @@
 -- Token lists are accepted exactly if the grammar has them.
-use Rattle.std.specs.Prelude.{ℕ, suc, ◌≤◌, ◌<◌, ◌≡◌, Bool, true, false, not, ◌&&◌, length, Float}
+use Rattle.std.specs.Prelude.{ℕ, suc, ◌≤◌, ◌<◌, ◌≡◌, Bool, true, not, ◌&&◌, length, Float}
 use Rattle.std.proofs.Common.{arith, sym, ◌∙◌, ap, subst}
+use Rattle.std.proofs.lemmas.Bool.{not-true}
+use Rattle.std.proofs.lemmas.List.{append-nil}
 use Rattle.std.proofs.Math.Path.{refl}
 use mathlib.Core.List.{List, [], ◌∷◌, ◌++◌}
 use Rattle.std.proofs.Math.Option.{some}
@@ -51,15 +53,11 @@ module _ (countable : Float → Bool) (b : Bundle) where
   given_is here = refl
   given_is (◌▸◌ {c = c} {d = d} {o = o} {t = t} e g) = given_cons c.text c.character c.left d o t e ∙ ap (λ v. t ∷ v) (given_is g)
 
-  append_nil : (p : List Token) → p ++ [] ≡ p
-  append_nil [] = refl
-  append_nil (t ∷ p) = ap (λ p. t ∷ p) (append_nil p)
-
   whole_is : (c f : Cursor) (p : List Token) → WholeTo i c p f → c.left ≡ p
   whole_is c f p w =
       given_is w.1.0
       ∙ ap (λ u. p ++ u) (given_end w.0.text w.0.character w.0.left f w.1.1)
-      ∙ append_nil p
+      ∙ append-nil p
 
   long_enough : (c d : Cursor) (p : List Token) → Gives i c p d → length p < suc (length c.left)
   long_enough c d p g = rw (given_is g) (let h = fits p d.left in omega (arith, h))
@@ -147,15 +145,11 @@ module _ (countable : Float → Bool) where
         has_all ps (and_right (accepts countable p) (accepts_all ps) e),
       )
 
-  not_not : (b : Bool) → not b ≡ true → b ≡ false
-  not_not true e = sym e
-  not_not false e = refl
-
   pub has_none : (ps : List (List Token)) → accepts_none ps ≡ true → HasNone countable ps
   has_none [] e = tt
   has_none (p ∷ ps) e = (
     λ js d.
         clash (ap (was_read countable) (complete countable [] p js d).1)
-        (not_not (accepts countable p) (and_left (not (accepts countable p)) (accepts_none ps) e)),
+        (not-true (accepts countable p) (and_left (not (accepts countable p)) (accepts_none ps) e)),
     has_none ps (and_right (not (accepts countable p)) (accepts_none ps) e),
   )

@@ -1,7 +1,8 @@
 -- What holds of both ways of a choice by a token holds of the choice.
-use Rattle.std.specs.Prelude.{ℕ, ◌≡◌, Bool, true, false, cond, Float}
+use Rattle.std.specs.Prelude.{ℕ, ◌≡◌, true, false, Float}
 use Rattle.std.proofs.Math.Path.{refl}
 use Rattle.std.proofs.Common.{ap}
+use Rattle.std.proofs.lemmas.Bool.{cond_both}
 use Rattle.std.proofs.Math.Option.{Option}
 use Rattle.base.specs.Choice.{clash}
 use Rattle.color.specs.declared.Color.{Color}
@@ -10,81 +11,41 @@ use Rattle.grammar.specs.View.{decided, is_sign, on_sign, on_import, on_identifi
 
 pub sign_is : (c : Sign) (t : Token) → is_sign c t ≡ true → t ≡ sign c
 unfolding is_sign
-sign_is c (import x) e = clash e refl
-sign_is c (identifier x) e = clash e refl
-sign_is c (string x) e = clash e refl
-sign_is c (color_ref x) e = clash e refl
-sign_is c (number x) e = clash e refl
-sign_is c (zoom_range x y) e = clash e refl
-sign_is c (color x) e = clash e refl
 sign_is c (sign x) e = go (Sign-discrete x c) e
   where
     go : (d : Dec (x ≡ c)) → decided d ≡ true → sign x ≡ sign c
     go (yes p) e = ap sign p
     go (no p) e = clash e refl
+sign_is c t e = clash e refl
 
 module _ {B : Type 0} (Q : B → Type 0) where
-  pub test_holds : (b : Bool) (f g : B) → (b ≡ true → Q f) → (b ≡ false → Q g) → Q (cond b f g)
-  test_holds true f g hf hg = hf refl
-  test_holds false f g hf hg = hg refl
-
   pub sign_holds : (c : Sign) (t : Token) (f g : B) → (t ≡ sign c → Q f) → (is_sign c t ≡ false → Q g) → Q (on_sign c t f g)
-  sign_holds c t f g hf hg = test_holds (is_sign c t) f g (λ e. hf (sign_is c t e)) hg
+  sign_holds c t f g hf hg = cond_both (is_sign c t) f g Q (λ e. hf (sign_is c t e)) hg
 
   pub import_holds : (t : Token) (f : Name → B) (g : B) → ((x : Name) → t ≡ import x → Q (f x)) → Q g → Q (on_import t f g)
   unfolding on_import
   import_holds (import x) f g hf hg = hf x refl
-  import_holds (identifier x) f g hf hg = hg
-  import_holds (string x) f g hf hg = hg
-  import_holds (color_ref x) f g hf hg = hg
-  import_holds (number x) f g hf hg = hg
-  import_holds (zoom_range x y) f g hf hg = hg
-  import_holds (color x) f g hf hg = hg
-  import_holds (sign x) f g hf hg = hg
+  import_holds t f g hf hg = hg
 
   pub identifier_holds : (t : Token) (f : Name → B) (g : B) → ((x : Name) → t ≡ identifier x → Q (f x)) → Q g → Q (on_identifier t f g)
   unfolding on_identifier
-  identifier_holds (import x) f g hf hg = hg
   identifier_holds (identifier x) f g hf hg = hf x refl
-  identifier_holds (string x) f g hf hg = hg
-  identifier_holds (color_ref x) f g hf hg = hg
-  identifier_holds (number x) f g hf hg = hg
-  identifier_holds (zoom_range x y) f g hf hg = hg
-  identifier_holds (color x) f g hf hg = hg
-  identifier_holds (sign x) f g hf hg = hg
+  identifier_holds t f g hf hg = hg
 
   pub string_holds : (t : Token) (f : Name → B) (g : B) → ((x : Name) → t ≡ string x → Q (f x)) → Q g → Q (on_string t f g)
   unfolding on_string
-  string_holds (import x) f g hf hg = hg
-  string_holds (identifier x) f g hf hg = hg
   string_holds (string x) f g hf hg = hf x refl
-  string_holds (color_ref x) f g hf hg = hg
-  string_holds (number x) f g hf hg = hg
-  string_holds (zoom_range x y) f g hf hg = hg
-  string_holds (color x) f g hf hg = hg
-  string_holds (sign x) f g hf hg = hg
+  string_holds t f g hf hg = hg
 
   pub color_ref_holds : (t : Token) (f : Name → B) (g : B) → ((x : Name) → t ≡ color_ref x → Q (f x)) → Q g → Q (on_color_ref t f g)
   unfolding on_color_ref
-  color_ref_holds (import x) f g hf hg = hg
-  color_ref_holds (identifier x) f g hf hg = hg
-  color_ref_holds (string x) f g hf hg = hg
   color_ref_holds (color_ref x) f g hf hg = hf x refl
-  color_ref_holds (number x) f g hf hg = hg
-  color_ref_holds (zoom_range x y) f g hf hg = hg
-  color_ref_holds (color x) f g hf hg = hg
-  color_ref_holds (sign x) f g hf hg = hg
+  color_ref_holds t f g hf hg = hg
 
   pub number_holds : (t : Token) (f : Float → B) (g : B) → ((x : Float) → t ≡ number x → Q (f x)) → Q g → Q (on_number t f g)
   unfolding on_number
-  number_holds (import x) f g hf hg = hg
-  number_holds (identifier x) f g hf hg = hg
-  number_holds (string x) f g hf hg = hg
-  number_holds (color_ref x) f g hf hg = hg
   number_holds (number x) f g hf hg = hf x refl
-  number_holds (zoom_range x y) f g hf hg = hg
-  number_holds (color x) f g hf hg = hg
-  number_holds (sign x) f g hf hg = hg
+  number_holds t f g hf hg = hg
 
   pub zoom_range_holds :
       (t : Token) (f : Option ℕ → Option ℕ → B) (g : B)
@@ -92,22 +53,10 @@ module _ {B : Type 0} (Q : B → Type 0) where
       → Q g
       → Q (on_zoom_range t f g)
   unfolding on_zoom_range
-  zoom_range_holds (import x) f g hf hg = hg
-  zoom_range_holds (identifier x) f g hf hg = hg
-  zoom_range_holds (string x) f g hf hg = hg
-  zoom_range_holds (color_ref x) f g hf hg = hg
-  zoom_range_holds (number x) f g hf hg = hg
   zoom_range_holds (zoom_range x y) f g hf hg = hf x y refl
-  zoom_range_holds (color x) f g hf hg = hg
-  zoom_range_holds (sign x) f g hf hg = hg
+  zoom_range_holds t f g hf hg = hg
 
   pub color_holds : (t : Token) (f : Color → B) (g : B) → ((x : Color) → t ≡ color x → Q (f x)) → Q g → Q (on_color t f g)
   unfolding on_color
-  color_holds (import x) f g hf hg = hg
-  color_holds (identifier x) f g hf hg = hg
-  color_holds (string x) f g hf hg = hg
-  color_holds (color_ref x) f g hf hg = hg
-  color_holds (number x) f g hf hg = hg
-  color_holds (zoom_range x y) f g hf hg = hg
   color_holds (color x) f g hf hg = hf x refl
-  color_holds (sign x) f g hf hg = hg
+  color_holds t f g hf hg = hg

@@ -3,7 +3,7 @@ use Rattle.std.specs.Prelude.{ℕ, ◌≡◌}
 use Rattle.std.proofs.Math.Option.{Option, none, some}
 use Rattle.color.specs.declared.Color.{Color}
 use Rattle.grammar.specs.Token.{Name, color_ref, color}
-use Rattle.grammar.specs.Input.{Entry, rule_entry, selector_entry, test_entry, property_entry, number_entry, color_entry, token, Store, Input, over, Answer, refused, read}
+use Rattle.grammar.specs.Input.{Entry, color_entry, token, Store, Input, over, Answer, refused, read}
 use Rattle.grammar.specs.Reader.{load}
 use Rattle.grammar.specs.Stream.{Fueled}
 
@@ -23,12 +23,8 @@ module _ {T U : Type 0} (Rel : T → U → Type 0) where
 -- as the tokenizer makes it, say, one of three bytes.
 module _ (Genuine : Name → Type 0) (Small : Color → Type 0) where
   abbrev pub Proper : Entry → Type 0
-  Proper rule_entry = Unit
-  Proper (selector_entry s) = Unit
-  Proper (test_entry t) = Unit
-  Proper (property_entry p) = Unit
-  Proper (number_entry x) = Unit
   Proper (color_entry n c) = Genuine n × Small c
+  Proper e = Unit
 
   -- the stores take entries alike, and show the same colours
   pub record Stands {T U : Type 0} (Rel : T → U → Type 0) (s : Store T) (z : Store U) : Type 0 where

@@ -2,7 +2,7 @@
 use Rattle.std.specs.Prelude.{ℕ, ◌≤◌, Bool, cond, List, [], ◌∷◌, ◌++◌, length, leb, eqb}
 use Rattle.std.proofs.Math.Option.{none, some}
 use Rattle.grammar.specs.Reading.{Reading, Colors, define, colors_after}
-use Rattle.grammar.specs.Input.{Entry, rule_entry, selector_entry, test_entry, property_entry, number_entry, color_entry, table_of, Store}
+use Rattle.grammar.specs.Input.{Entry, color_entry, table_of, Store}
 use Rattle.grammar.specs.Entries.{entries_of, count}
 
 pub record Tables : Type 0 where
@@ -18,12 +18,8 @@ empty = tables [] []
 
 -- the tables with one entry more; a colour defined anew takes no entry
 unfoldable pub add : Tables → Entry → Tables
-add τ rule_entry = tables (τ.entries ++ (rule_entry ∷ [])) τ.colors
-add τ (selector_entry s) = tables (τ.entries ++ (selector_entry s ∷ [])) τ.colors
-add τ (test_entry t) = tables (τ.entries ++ (test_entry t ∷ [])) τ.colors
-add τ (property_entry p) = tables (τ.entries ++ (property_entry p ∷ [])) τ.colors
-add τ (number_entry x) = tables (τ.entries ++ (number_entry x ∷ [])) τ.colors
 add τ (color_entry n c) = tables τ.entries (define τ.colors n c)
+add τ e = tables (τ.entries ++ (e ∷ [])) τ.colors
 
 unfoldable pub add_all : Tables → List Entry → Tables
 add_all τ [] = τ

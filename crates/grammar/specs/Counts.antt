@@ -1,6 +1,6 @@
 -- How many entries a reading stores in each table, as sums over its rules.
 use Rattle.std.specs.Prelude.{ℕ, ◌+◌, ◌≤◌, List, [], ◌∷◌, length}
-use Rattle.grammar.specs.Reading.{plain, digits, Test, unary, text, numeric, Value, word, quoted, colored, numbers, width_delta, Rule, Reading, rules_of, colors_after}
+use Rattle.grammar.specs.Reading.{plain, digits, Test, unary, text, numeric, Value, numbers, width_delta, Rule, Reading, rules_of, colors_after}
 
 unfoldable pub total : {A : Type 0} → (A → ℕ) → List A → ℕ
 total f [] = 0
@@ -14,11 +14,9 @@ test_numbers (text o a (digits x)) = 1
 test_numbers (numeric o a x) = 1
 
 abbrev pub value_numbers : Value → ℕ
-value_numbers (word a) = 0
-value_numbers (quoted a) = 0
-value_numbers (colored c) = 0
 value_numbers (numbers xs) = length xs
 value_numbers (width_delta x) = 1
+value_numbers v = 0
 
 abbrev pub rule_selectors : Rule → ℕ
 rule_selectors r = length r.selectors

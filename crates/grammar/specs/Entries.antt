@@ -1,6 +1,6 @@
 -- What a reading stores: its entries in order, and how many go to each table.
 use Rattle.std.specs.Prelude.{ℕ, ◌+◌, Bool, true, false, List, [], ◌∷◌, ◌++◌, eqb, Float}
-use Rattle.grammar.specs.Reading.{plain, digits, Test, unary, text, numeric, Value, word, quoted, colored, numbers, width_delta, Selector, Property, Rule, rule_item, color_item, Reading, Colors, define}
+use Rattle.grammar.specs.Reading.{plain, digits, Test, unary, text, numeric, Value, numbers, width_delta, Selector, Property, Rule, rule_item, color_item, Reading, Colors, define}
 use Rattle.grammar.specs.Input.{Entry, rule_entry, selector_entry, test_entry, property_entry, number_entry, color_entry, table_of}
 
 abbrev pub test_entries : Test → List Entry
@@ -18,11 +18,9 @@ numbers_entries [] = []
 numbers_entries (x ∷ xs) = number_entry x ∷ numbers_entries xs
 
 abbrev pub value_entries : Value → List Entry
-value_entries (word a) = []
-value_entries (quoted a) = []
-value_entries (colored c) = []
 value_entries (numbers xs) = numbers_entries xs
 value_entries (width_delta x) = number_entry x ∷ []
+value_entries v = []
 
 unfoldable pub properties_entries : List Property → List Entry
 properties_entries [] = []
@@ -52,12 +50,8 @@ count k (e ∷ es) = one (eqb (table_of e) k) + count k es
 
 -- the colours after an entry, and after some
 abbrev pub tint : Colors → Entry → Colors
-tint Γ rule_entry = Γ
-tint Γ (selector_entry s) = Γ
-tint Γ (test_entry t) = Γ
-tint Γ (property_entry p) = Γ
-tint Γ (number_entry x) = Γ
 tint Γ (color_entry n c) = define Γ n c
+tint Γ e = Γ
 
 unfoldable pub tints : Colors → List Entry → Colors
 tints Γ [] = Γ

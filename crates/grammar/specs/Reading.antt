@@ -63,15 +63,13 @@ bare t = record { object_type = t; min_zoom = none; max_zoom = none; tests = [];
 
 -- a later zoom range or layer name replaces the earlier; tests pile up
 abbrev pub with_zoom : Selector → Option ℕ → Option ℕ → Selector
-with_zoom σ a b = record { object_type = σ.object_type; min_zoom = a; max_zoom = b; tests = σ.tests; layer_id = σ.layer_id }
+with_zoom σ a b = record σ { min_zoom = a; max_zoom = b }
 
 abbrev pub with_test : Selector → Test → Selector
-with_test σ t =
-    record
-    { object_type = σ.object_type; min_zoom = σ.min_zoom; max_zoom = σ.max_zoom; tests = σ.tests ++ (t ∷ []); layer_id = σ.layer_id }
+with_test σ t = record σ { tests = σ.tests ++ (t ∷ []) }
 
 abbrev pub with_layer : Selector → Name → Selector
-with_layer σ a = record { object_type = σ.object_type; min_zoom = σ.min_zoom; max_zoom = σ.max_zoom; tests = σ.tests; layer_id = some a }
+with_layer σ a = record σ { layer_id = some a }
 
 abbrev pub add_selector : Selector → Rule → Rule
 add_selector σ r = rule (σ ∷ r.selectors) r.properties

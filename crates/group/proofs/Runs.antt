@@ -7,7 +7,7 @@ use mathlib.Core.List.{List, [], ◌∷◌, ◌++◌, map, append_assoc}
 use lib.Dec.{leb}
 use lib.ListN.{length, take, drop, length-append, length-drop, take-append-drop}
 use lib.Seq.{drop-drop, take-append_seam, drop-append_seam}
-use borrow.Author.Tests.{le-leb, lt-leb, leb-true}
+use borrow.Author.Tests.{le-leb, leb-true}
 use Rattle.base.specs.Bytes.{Bytes, AllBytes, within}
 use Rattle.base.specs.Map.{Entry, Map, entry}
 use Rattle.base.specs.Choice.{pick, by-test}
@@ -24,19 +24,6 @@ use Rattle.base.proofs.Options.{by_option, by_option2, none_some, some2_first, s
 -- what a loop that counts up has left
 pub less_one : (n k : ℕ) → n - (k + 1) ≡ n - k - 1
 less_one n k = omega arith
-
--- a part behind its length
-module _ (s : Bytes) (n from : ℕ) where
-  pub sized_here : from + n ≤ length s → Some (range from (from + n)) ≡ sized_of s n from
-  unfolding sized_of pick
-  sized_here h = rw (le-leb from (length s) (omega arith), le-leb n (length s - from) (omega arith))
-
-  pub sized_past : length s < from + n → None ≡ sized_of s n from
-  unfolding sized_of pick
-  sized_past h =
-      by-test (leb from (length s))
-      (λ e. let l = leb-true from (length s) e in rw (e, lt-leb n (length s - from) (omega arith)))
-      (λ e. rw e)
 
 -- a run, by its first pair
 run_step : (n : ℕ) (s : Bytes) (at : ℕ) → 0 < n → pairs_at n s at ≡ on_option2 (pair_at s at) [] (λ a b. ranges a b ∷ pairs_at (n - 1) s b.to)

@@ -24,28 +24,22 @@ pub fn number_at(s: &[u8], at: usize, most: u64) -> Option<(u64, usize)>
 }
 
 // A number of one byte.
+#[tactic(auto, unfolding(crate::specs::Number::single, base::specs::Choice::pick))]
 fn last_byte(b: u8, most: u64, next: usize) -> Option<(u64, usize)>
     ensures { result ≡ single b most next }
 {
-    if (b as u64) <= most {
-        return Some((b as u64, next));
-    }
-    None
+    let n = u64::from(b);
+    (n <= most).then_some((n, next))
 }
 
 // A byte before the rest of its number: the rest may not be 0, for then its byte is needless.
+#[tactic(auto, unfolding(crate::specs::Number::joined, base::specs::Choice::pick))]
 fn first_byte(b: u8, v: u64, most: u64, next: usize) -> Option<(u64, usize)>
     requires { v ≤ most / 128 }
     ensures { result ≡ joined b v most next }
 {
-    if v == 0 {
-        return None;
-    }
-    let n = (b % 128) as u64 + 128 * v;
-    if n <= most {
-        return Some((n, next));
-    }
-    None
+    let n = u64::from(b % 128) + 128 * v;
+    (v != 0 && n <= most).then_some((n, next))
 }
 
 // The part at a place: its length as a group number, then so many bytes. Most lengths are of one byte.
@@ -54,30 +48,30 @@ pub fn part_at(s: &[u8], at: usize) -> Option<Range>
 {
     let b = *s.get(at)?;
     if b < 128 {
-        return sized(s, b as u64, at + 1);
+        return sized(s, u64::from(b), at + 1);
     }
     long_part(s, at)
 }
 
 // The same for a length of any number of bytes.
+#[tactic(auto, unfolding(crate::specs::Pair::part_at, base::specs::Option::on_option))]
 fn long_part(s: &[u8], at: usize) -> Option<Range>
     ensures { result ≡ part_at s.now at }
 {
-    let (n, next) = number_at(s, at, 4294967295)?;
+    let (n, next) = number_at(s, at, u64::from(u32::MAX))?;
     sized(s, n, next)
 }
 
+#[tactic(auto, unfolding(crate::specs::Pair::sized_of, base::specs::Choice::pick))]
 fn sized(s: &[u8], n: u64, from: usize) -> Option<Range>
     ensures { result ≡ sized_of s.now n from }
 {
     let to = from.checked_add(n as usize)?;
-    if to <= s.len() {
-        return Some(Range { from, to });
-    }
-    None
+    (to <= s.len()).then_some(Range { from, to })
 }
 
 // The pair at a place: two parts, one behind the other.
+#[tactic(auto, unfolding(crate::specs::Pair::pair_at, base::specs::Option::on_option))]
 pub fn pair_at(s: &[u8], at: usize) -> Option<(Range, Range)>
     ensures { result ≡ pair_at s.now at }
 {
@@ -138,6 +132,7 @@ impl Iterator for Pairs<'_> {
 }
 
 // The place behind the pair at a place.
+#[tactic(auto, unfolding(crate::specs::Pair::behind, base::specs::Option::on_option))]
 fn behind(s: &[u8], at: usize) -> Option<usize>
     ensures { result ≡ behind s.now at }
 {

@@ -28,7 +28,7 @@ use Rattle.input.specs.Text.{Small, shifted, placed, text_of, next_of, token_of,
 use Rattle.input.specs.Source.{Spot, spot, next_at, input_of}
 use Rattle.input.specs.declared.Place.{Place}
 use Rattle.input.specs.declared.Source.{Source}
-use Rattle.input.proofs.TokenLaws.{by_token}
+use Rattle.input.proofs.TokenLaws.{sign_token_read, sign_token_placed, by_token}
 
 -- a name in one place of the bundle, with the bytes that stand there
 pub record Genuine (bundle : Bytes) (a : Name') : Type 0 where
@@ -68,7 +68,7 @@ module _ (bundle : Bytes) where
       (λ r i s h. name_in_lem from a b r i h) (λ r i s h. name_in_lem from a b r i h) (λ r i s h. name_in_lem from a b r i h)
       (λ x i s h. tt) (λ x y i s h. tt)
       (λ r i s h. name_in_lem from a b r i h) (λ x i s h. s x refl)
-      (λ u g i s h. subst (λ u. Holds (token_of bundle u)) (g.stays from) (subst Holds (sym (g.read_as_lem bundle)) tt))
+      (λ g i s h. subst (λ u. Holds (token_of bundle u)) (sign_token_placed from g) (subst Holds (sym (sign_token_read bundle g)) tt))
 
   -- a place of a text that is not empty is a place of the bundle
   in_bundle : (s : Source) (k : ℕ) → 0 < k → k ≤ length (text_of bundle s) → s.range.from + k ≤ length bundle

@@ -14,7 +14,7 @@ use Rattle.token_kind.specs.declared.LexerError.{LexerError}
 use Rattle.token.specs.declared.Step.{Step}
 use Rattle.token.specs.declared.Step.TheVariants.{End, Took}
 use Rattle.token_kind.specs.declared.Token.{Token}
-use Rattle.grammar.specs.Token.{Name, joined, Sign, Token as Token', import, identifier, string, color_ref, number, zoom_range, color, sign, colon}
+use Rattle.grammar.specs.Token.{Name, joined, Sign, Token as Token', identifier, number, colon}
 use Rattle.grammar.specs.View.{is_sign, on_identifier, on_number}
 use Rattle.grammar.proofs.ViewLaws.{identifier_holds, number_holds}
 use Rattle.grammar.specs.Input.{broken, end, token, Store, Answer, refused, on_next}
@@ -99,14 +99,8 @@ module _ (bundle : Bytes) {T : Type 0} (st : Store T) {A : Type 0} (s : Source) 
           (on_identifier t (λ a. Ok (range_of a, d)) (Err (refusal_at 4 3 o)))
           (λ e. refused e τ)
           (λ a d. k (name_in bundle a) (spot s d))
-      by_token (import x) o d n = refl
       by_token (identifier x) o d n = ap (λ a. k a (spot s d)) (n x refl)
-      by_token (string x) o d n = refl
-      by_token (color_ref x) o d n = refl
-      by_token (number x) o d n = refl
-      by_token (zoom_range x y) o d n = refl
-      by_token (color x) o d n = refl
-      by_token (sign x) o d n = refl
+      by_token t o d n = refl
 
       go :
           (m : Result (Token × Place × Cursor) Refusal)
@@ -129,14 +123,8 @@ module _ (bundle : Bytes) {T : Type 0} (st : Store T) {A : Type 0} (s : Source) 
           (t : Token') (o : Place) (d : Cursor)
           → on_number t (λ x. k x (spot s d)) (refused (refusal_at 4 3 o) τ)
           ≡ on_result2 (on_number t (λ x. Ok (x, d)) (Err (refusal_at 4 3 o))) (λ e. refused e τ) (λ x d. k x (spot s d))
-      by_token (import x) o d = refl
-      by_token (identifier x) o d = refl
-      by_token (string x) o d = refl
-      by_token (color_ref x) o d = refl
       by_token (number x) o d = refl
-      by_token (zoom_range x y) o d = refl
-      by_token (color x) o d = refl
-      by_token (sign x) o d = refl
+      by_token t o d = refl
 
       go :
           (m : Result (Token × Place × Cursor) Refusal)

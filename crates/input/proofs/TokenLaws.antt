@@ -1,20 +1,23 @@
 -- What the arms of a match on a token say of the grammar's token.
-use Prim.Native.Nat.{ℕ, zero, suc}
+use Prim.Native.Nat.{ℕ, zero, suc, ◌-◌}
 use mathlib.Core.Path.{◌≡◌, refl, sym, ap, subst, ◌∙◌}
 use mathlib.Core.Bool.{Bool, true, false, not, cond}
 use mathlib.Core.List.{List, [], ◌∷◌}
 use mathlib.Core.Option.{Option as Option'}
 use lib.Dec.{T}
+use lib.ListN.{get_or}
 use lib.Ieee.{Float}
-use types.Run.{OneOf, miss}
+use types.Run.{OneOf, hit, miss}
 use mir.Val.{has_key}
 use denote.Enum.Declared.{tag_of}
+use borrow.Enum.Compared.{by_apart, by_Bare}
+use borrow.Author.Rules.{rules}
 use Rattle.base.specs.Bytes.{Bytes}
-use Rattle.base.specs.Choice.{by-test, different}
+use Rattle.base.specs.Choice.{by-test, clash, different}
 use Rattle.base.specs.declared.Range.{Range}
 use Rattle.base.specs.declared.refusal.Refusal.{Refusal}
 use Rattle.color.specs.declared.Color.{Color as Shade}
-use Rattle.token_kind.specs.contracts.Token.{the_type}
+use Rattle.token_kind.specs.contracts.Token.{enum, the_type}
 use Rattle.token_kind.specs.declared.Token.{Token}
 use Rattle.token_kind.specs.declared.Token.TheVariants.{
   Import,
@@ -44,8 +47,8 @@ use Rattle.token_kind.specs.declared.Token.TheVariants.{
   SemiColon,
   Comma,
 }
-use Rattle.grammar.specs.Token.{Name, Sign, Token as Token', import, identifier, string, color_ref, number, zoom_range, color, sign, left_paren, right_paren, left_bracket, right_bracket, left_brace, right_brace, equal_sign, not_equal_sign, less_sign, greater_sign, less_or_equal_sign, greater_or_equal_sign, regex_match, bang, question_mark, colon, double_colon, semi_colon, comma}
-use Rattle.grammar.specs.View.{is_sign, on_import, on_identifier, on_string, on_color_ref, on_number, on_zoom_range, on_color}
+use Rattle.grammar.specs.Token.{Name, Sign, Sign-discrete, Token as Token', import, identifier, string, color_ref, number, zoom_range, color, sign, left_paren, right_paren, left_bracket, right_bracket, left_brace, right_brace, equal_sign, not_equal_sign, less_sign, greater_sign, less_or_equal_sign, greater_or_equal_sign, regex_match, bang, question_mark, colon, double_colon, semi_colon, comma}
+use Rattle.grammar.specs.View.{decided, is_sign, on_import, on_identifier, on_string, on_color_ref, on_number, on_zoom_range, on_color}
 use Rattle.grammar.proofs.ViewLaws.{sign_is, import_holds, identifier_holds, string_holds, color_ref_holds, number_holds, zoom_range_holds, color_holds}
 use Rattle.cursor.specs.declared.Cursor.{Cursor}
 use Rattle.input.specs.Text.{placed, name_in, range_of, token_of, same_token, mandatory_of, expected_of, expect_of, refusal_at}
@@ -85,17 +88,44 @@ tag_of' (color_ref a) = 5
 tag_of' (color c) = 6
 tag_of' (sign g) = sign_tag g
 
--- a token of one sign, the same anywhere
-pub record Signed (t : Token) : Type 0 where
-  pub is : Sign
-  pub tagged : tag_of the_type t ≡ sign_tag is
-  pub read_as_lem : (bundle : Bytes) → token_of bundle t ≡ sign is
-  pub stays : (from : ℕ) → t ≡ placed from t
+-- the token of a sign
+abbrev pub sign_token : Sign → Token
+sign_token left_paren = LeftParen
+sign_token right_paren = RightParen
+sign_token left_bracket = LeftBracket
+sign_token right_bracket = RightBracket
+sign_token left_brace = LeftBrace
+sign_token right_brace = RightBrace
+sign_token equal_sign = Equal
+sign_token not_equal_sign = NotEqual
+sign_token less_sign = Less
+sign_token greater_sign = Greater
+sign_token less_or_equal_sign = LessOrEqual
+sign_token greater_or_equal_sign = GreaterOrEqual
+sign_token regex_match = RegexMatch
+sign_token bang = Bang
+sign_token question_mark = QuestionMark
+sign_token colon = Colon
+sign_token double_colon = DoubleColon
+sign_token semi_colon = SemiColon
+sign_token comma = Comma
+
+sign_token_tag : (g : Sign) → tag_of the_type (sign_token g) ≡ sign_tag g
+sign_token_tag left_paren = refl
+sign_token_tag g = refl
+
+pub sign_token_read : (bundle : Bytes) (g : Sign) → token_of bundle (sign_token g) ≡ sign g
+unfolding token_of
+sign_token_read bundle left_paren = refl
+sign_token_read bundle g = refl
+
+pub sign_token_placed : (from : ℕ) (g : Sign) → sign_token g ≡ placed from (sign_token g)
+sign_token_placed from left_paren = refl
+sign_token_placed from g = refl
 
 -- what holds of the tokens with contents and of all signs holds of every token
-module _ (P : Token → Type 0) (import-case : (r : Range) → P (Import r)) (identifier-case : (r : Range) → P (Identifier r)) (text-case : (r : Range) → P (Text r)) (number-case : (x : Float) → P (Number x)) (zoom-case : (a b : Option ℕ) → P (ZoomRange a b)) (ref-case : (r : Range) → P (ColorRef r)) (color-case : (c : Shade) → P (Color c)) (sign-case : (t : Token) → Signed t → P t) where
+module _ (P : Token → Type 0) (import-case : (r : Range) → P (Import r)) (identifier-case : (r : Range) → P (Identifier r)) (text-case : (r : Range) → P (Text r)) (number-case : (x : Float) → P (Number x)) (zoom-case : (a b : Option ℕ) → P (ZoomRange a b)) (ref-case : (r : Range) → P (ColorRef r)) (color-case : (c : Shade) → P (Color c)) (sign-case : (g : Sign) → P (sign_token g)) where
   pub by_token : (t : Token) → P t
-  unfolding token_of
   by_token (Import r) = import-case r
   by_token (Identifier r) = identifier-case r
   by_token (Text r) = text-case r
@@ -103,32 +133,32 @@ module _ (P : Token → Type 0) (import-case : (r : Range) → P (Import r)) (id
   by_token (ZoomRange a b) = zoom-case a b
   by_token (ColorRef r) = ref-case r
   by_token (Color c) = color-case c
-  by_token LeftParen = sign-case LeftParen (record { is = left_paren; tagged = refl; read_as_lem = λ bundle. refl; stays = λ from. refl })
-  by_token RightParen = sign-case RightParen (record { is = right_paren; tagged = refl; read_as_lem = λ bundle. refl; stays = λ from. refl })
-  by_token LeftBracket = sign-case LeftBracket (record { is = left_bracket; tagged = refl; read_as_lem = λ bundle. refl; stays = λ from. refl })
-  by_token RightBracket = sign-case RightBracket (record { is = right_bracket; tagged = refl; read_as_lem = λ bundle. refl; stays = λ from. refl })
-  by_token LeftBrace = sign-case LeftBrace (record { is = left_brace; tagged = refl; read_as_lem = λ bundle. refl; stays = λ from. refl })
-  by_token RightBrace = sign-case RightBrace (record { is = right_brace; tagged = refl; read_as_lem = λ bundle. refl; stays = λ from. refl })
-  by_token Equal = sign-case Equal (record { is = equal_sign; tagged = refl; read_as_lem = λ bundle. refl; stays = λ from. refl })
-  by_token NotEqual = sign-case NotEqual (record { is = not_equal_sign; tagged = refl; read_as_lem = λ bundle. refl; stays = λ from. refl })
-  by_token Less = sign-case Less (record { is = less_sign; tagged = refl; read_as_lem = λ bundle. refl; stays = λ from. refl })
-  by_token Greater = sign-case Greater (record { is = greater_sign; tagged = refl; read_as_lem = λ bundle. refl; stays = λ from. refl })
-  by_token LessOrEqual = sign-case LessOrEqual (record { is = less_or_equal_sign; tagged = refl; read_as_lem = λ bundle. refl; stays = λ from. refl })
-  by_token GreaterOrEqual = sign-case GreaterOrEqual (record { is = greater_or_equal_sign; tagged = refl; read_as_lem = λ bundle. refl; stays = λ from. refl })
-  by_token RegexMatch = sign-case RegexMatch (record { is = regex_match; tagged = refl; read_as_lem = λ bundle. refl; stays = λ from. refl })
-  by_token Bang = sign-case Bang (record { is = bang; tagged = refl; read_as_lem = λ bundle. refl; stays = λ from. refl })
-  by_token QuestionMark = sign-case QuestionMark (record { is = question_mark; tagged = refl; read_as_lem = λ bundle. refl; stays = λ from. refl })
-  by_token Colon = sign-case Colon (record { is = colon; tagged = refl; read_as_lem = λ bundle. refl; stays = λ from. refl })
-  by_token DoubleColon = sign-case DoubleColon (record { is = double_colon; tagged = refl; read_as_lem = λ bundle. refl; stays = λ from. refl })
-  by_token SemiColon = sign-case SemiColon (record { is = semi_colon; tagged = refl; read_as_lem = λ bundle. refl; stays = λ from. refl })
-  by_token Comma = sign-case Comma (record { is = comma; tagged = refl; read_as_lem = λ bundle. refl; stays = λ from. refl })
+  by_token LeftParen = sign-case left_paren
+  by_token RightParen = sign-case right_paren
+  by_token LeftBracket = sign-case left_bracket
+  by_token RightBracket = sign-case right_bracket
+  by_token LeftBrace = sign-case left_brace
+  by_token RightBrace = sign-case right_brace
+  by_token Equal = sign-case equal_sign
+  by_token NotEqual = sign-case not_equal_sign
+  by_token Less = sign-case less_sign
+  by_token Greater = sign-case greater_sign
+  by_token LessOrEqual = sign-case less_or_equal_sign
+  by_token GreaterOrEqual = sign-case greater_or_equal_sign
+  by_token RegexMatch = sign-case regex_match
+  by_token Bang = sign-case bang
+  by_token QuestionMark = sign-case question_mark
+  by_token Colon = sign-case colon
+  by_token DoubleColon = sign-case double_colon
+  by_token SemiColon = sign-case semi_colon
+  by_token Comma = sign-case comma
 
 -- the grammar's token has the tag of the tokenizer's
 pub same_tag : (bundle : Bytes) (t : Token) → tag_of the_type t ≡ tag_of' (token_of bundle t)
 unfolding token_of
 same_tag bundle =
     by_token (λ t. tag_of the_type t ≡ tag_of' (token_of bundle t)) (λ r. refl) (λ r. refl) (λ r. refl) (λ x. refl) (λ a b. refl) (λ r. refl) (λ c. refl)
-    (λ t s. s.tagged ∙ ap tag_of' (sym (s.read_as_lem bundle)))
+    (λ g. sign_token_tag g ∙ ap tag_of' (sym (sign_token_read bundle g)))
 
 -- a word stands in one place of the bundle
 pub word_named : (bundle : Bytes) (t : Token) (a : Name) → token_of bundle t ≡ identifier a → a ≡ name_in bundle (range_of a)
@@ -138,7 +168,7 @@ word_named bundle =
     (λ r a e. different cc)
     (λ r a e. let z : name_in bundle r ≡ a = cc in subst (λ a. a ≡ name_in bundle (range_of a)) z refl)
     (λ r a e. different cc) (λ x a e. different cc) (λ x y a e. different cc) (λ r a e. different cc) (λ c a e. different cc)
-    (λ t s a e. let z = sym (s.read_as_lem bundle) ∙ e in different cc)
+    (λ g a e. let z = sym (sign_token_read bundle g) ∙ e in different cc)
 
 -- the tags that are none of these
 abbrev pub others : List ℕ → List ℕ
@@ -158,7 +188,7 @@ placed_other from =
     (λ x h. refl) (λ a b h. refl)
     (λ r h. absurd (miss (others (0 ∷ 1 ∷ 2 ∷ 5 ∷ [])) 5 tt h))
     (λ c h. refl)
-    (λ t s h. s.stays from)
+    (λ g h. sign_token_placed from g)
 
 -- a token of the last arm, where arms with these tags stand before it
 module _ (bundle : Bytes) (taken : List ℕ) (t : Token) (h : OneOf (others taken) (tag_of the_type t)) where
@@ -213,44 +243,66 @@ pub got_known :
     → y ≡ on_result3 x k0 k1
 got_known x k0 k1 {o = o} {d = d} e f h = result_ok x k0 (on_three k1) (e ∙ ap (λ t. Ok (t, o, d)) f) h
 
+-- ---- == with the token of a sign tells the sign
+
+abbrev signs : List ℕ
+signs = others (0 ∷ 1 ∷ 2 ∷ 3 ∷ 4 ∷ 5 ∷ 6 ∷ [])
+
+is_key : (g : Sign) → T (has_key signs (sign_tag g))
+is_key left_paren = tt
+is_key g = tt
+
+-- the sign of a tag
+abbrev sign_of : ℕ → Sign
+sign_of n =
+    get_or
+    (left_paren ∷ right_paren ∷ left_bracket ∷ right_bracket ∷ left_brace ∷ right_brace ∷ equal_sign ∷ not_equal_sign ∷ less_sign ∷ greater_sign
+    ∷ less_or_equal_sign ∷ greater_or_equal_sign ∷ regex_match ∷ bang ∷ question_mark ∷ colon ∷ double_colon ∷ semi_colon ∷ [])
+    (n - 7) comma
+
+sign_back : (g : Sign) → sign_of (sign_tag g) ≡ g
+sign_back left_paren = refl
+sign_back g = refl
+
+-- a token with the tag of a sign is the sign
+sign_tagged : (g : Sign) (x : Token') → tag_of' x ≡ sign_tag g → is_sign g x ≡ true
+unfolding is_sign
+sign_tagged g (sign h) e = go (Sign-discrete h g)
+  where
+    go : (d : Dec (h ≡ g)) → decided d ≡ true
+    go (yes p) = refl
+    go (no n) = absurd (n (sym (sign_back h) ∙ ap sign_of e ∙ sign_back g))
+sign_tagged g x e = absurd (subst (λ k. T (has_key signs k)) (sym e) (is_key g))
+
+-- the derived == goes by the tags first, and the tokens of signs have no contents
+pub sign_same : (bundle : Bytes) (g : Sign) (t : Token) → is_sign g (token_of bundle t) ≡ same_token t (sign_token g)
+sign_same bundle g t =
+    by-test (is_sign g (token_of bundle t))
+    (λ y.
+    let e = same_tag bundle t ∙ ap tag_of' (sign_is g (token_of bundle t) y) in
+    let k = subst (OneOf signs) (sym e) (hit signs (sign_tag g) (is_key g)) in
+    y ∙ by_Bare false false enum _ t (sign_token g) true signs (search rules) k (e ∙ sym (sign_token_tag g)))
+    (λ n. n ∙ by_apart false false enum _ t (sign_token g) refl λ e. clash (sign_tagged g (token_of bundle t) (sym (same_tag bundle t) ∙ e ∙ sign_token_tag g)) n)
+
 -- ---- a token that must come, by its sign
 
 module _ (bundle : Bytes) (s : Source) (c : Cursor) where
-  -- the same test of each token
-  by_test :
-      (u : Token) (g : Sign)
-      → ((t : Token) → same_token t u ≡ is_sign g (token_of bundle t))
-      → expected_of bundle u s c ≡ expect_of bundle g s c
+  sign_expected : (g : Sign) → expected_of bundle (sign_token g) s c ≡ expect_of bundle g s c
   unfolding expected_of expect_of on_result
-  by_test u g same = go (mandatory_of bundle s c)
+  sign_expected g = go (mandatory_of bundle s c)
     where
       go :
           (m : Result (Token × Place × Cursor) Refusal)
-          → on_result3 m Err (λ t o d. cond (same_token t u) (Ok d) (Err (refusal_at 4 4 o)))
+          → on_result3 m Err (λ t o d. cond (same_token t (sign_token g)) (Ok d) (Err (refusal_at 4 4 o)))
           ≡ on_result3 m Err (λ t o d. cond (is_sign g (token_of bundle t)) (Ok d) (Err (refusal_at 4 4 o)))
       go (Err e) = refl
-      go (Ok (t, o, d)) = ap (λ b. cond b (Ok d) (Err (refusal_at 4 4 o))) (same t)
+      go (Ok (t, o, d)) = ap (λ b. cond b (Ok d) (Err (refusal_at 4 4 o))) (sym (sign_same bundle g t))
 
   pub bracket_expected : expected_of bundle RightBracket s c ≡ expect_of bundle right_bracket s c
-  unfolding is_sign token_of
-  bracket_expected = by_test RightBracket right_bracket same
-    where
-      same : (t : Token) → same_token t RightBracket ≡ is_sign right_bracket (token_of bundle t)
-      same RightBracket = refl
-      same t = refl
+  bracket_expected = sign_expected right_bracket
 
   pub colon_expected : expected_of bundle Colon s c ≡ expect_of bundle colon s c
-  unfolding is_sign token_of
-  colon_expected = by_test Colon colon same
-    where
-      same : (t : Token) → same_token t Colon ≡ is_sign colon (token_of bundle t)
-      same Colon = refl
-      same t = refl
+  colon_expected = sign_expected colon
 
   pub semicolon_expected : expected_of bundle SemiColon s c ≡ expect_of bundle semi_colon s c
-  unfolding is_sign token_of
-  semicolon_expected = by_test SemiColon semi_colon same
-    where
-      same : (t : Token) → same_token t SemiColon ≡ is_sign semi_colon (token_of bundle t)
-      same SemiColon = refl
-      same t = refl
+  semicolon_expected = sign_expected semi_colon

@@ -1,12 +1,13 @@
 -- A put with its counts, by what the put answers; and the place of a colour, turn by turn.
-use Prim.Native.Nat.{ℕ, suc, ◌+◌, ◌-◌, ◌<◌, ◌≤◌}
+use Prim.Native.Nat.{ℕ, zero, suc, ◌+◌, ◌-◌, ◌<◌, ◌≤◌}
 use native.Mathlib.Omega.{arith}
 use mathlib.Core.Path.{◌≡◌, refl, sym, ap, ◌∙◌}
 use mathlib.Core.Bool.{true, false}
 use mathlib.Core.Option.{none, some}
 use mathlib.Core.List.{List}
 use Rattle.base.specs.Bytes.{Bytes, same, within}
-use Rattle.base.specs.Choice.{if_true, if_false}
+use Rattle.base.specs.Choice.{if_true, if_false, by-test}
+use lib.Dec.{eqb}
 use Rattle.base.specs.Option.{on_option, with_option}
 use Rattle.base.proofs.Options.{none_some}
 use Rattle.base.specs.declared.Range.{Range}
@@ -15,7 +16,8 @@ use Rattle.entries.specs.Put.{put_of}
 use Rattle.table.specs.Value.{range_at}
 use Rattle.keep.specs.Lent.{Lent, keep_of, kept, taken, with_colors, add_color_of, keep_color_of, color_added, color_kept, recolored, place_from}
 use Rattle.keep.specs.declared.Tally.{Tally}
-use Rattle.std.specs.Prelude.{Option, Some, None}
+use Rattle.std.specs.Prelude.{Option, Some, None, MatchOption}
+use borrow.Author.Tests.{eqb-true, eqb-false}
 
 module _ {A : Type 0} (stride : ℕ) (t : List A) (n : ℕ) (vs : List A) (f : ℕ → Tally) (k : Tally) (g : Tally → List A → Lent) where
   pub kept_none : {u : List A} → put_of stride t n vs ≡ (None, u) → (None, g k u) ≡ kept k (keep_of stride t n vs f) g
@@ -60,21 +62,29 @@ pub has_name :
     → same name p ≡ same name (within (range_at t i 1) bundle)
 has_name bundle t i r p name e g = ap (same name) (g ∙ ap (λ r. within r bundle) e)
 
-module _ (bundle name : Bytes) (t : List ℕ) (n i : ℕ) where
-  turn : i < n → place_from bundle name t i (n - i) ≡ place_from bundle name t i (suc (n - (i + 1)))
-  turn h = ap (place_from bundle name t i) (let e : n - i ≡ suc (n - (i + 1)) = omega arith in e)
+-- the first of k colours from place i on, as a search tells it
+module _ (bundle name : Bytes) (t : List ℕ) where
+  abbrev pub Named : ℕ → Type 0
+  Named i = same name (within (range_at t i 1) bundle) ≡ true
 
-  pub place_here : i < n → same name (within (range_at t i 1) bundle) ≡ true → Some i ≡ place_from bundle name t i (n - i)
-  unfolding place_from
-  place_here h e = if_true _ _ _ e refl ∙ sym (turn h)
+  abbrev pub Unnamed : ℕ → Type 0
+  Unnamed i = same name (within (range_at t i 1) bundle) ≡ false
 
-  pub place_further :
-      i < n
-      → same name (within (range_at t i 1) bundle) ≡ false
-      → place_from bundle name t (i + 1) (n - (i + 1)) ≡ place_from bundle name t i (n - i)
+  pub place_found :
+      (r : Option ℕ) (i k : ℕ)
+      → MatchOption r ((j : ℕ) → i ≤ j → j < i + k → Unnamed j)
+      (λ j. (i ≤ j) × (j < i + k) × Named j × ((l : ℕ) → i ≤ l → l < j → Unnamed l))
+      → r ≡ place_from bundle name t i k
   unfolding place_from
-  place_further h e = if_false _ _ _ e refl ∙ sym (turn h)
-
-  pub place_none : n ≤ i → None ≡ place_from bundle name t i (n - i)
-  unfolding place_from
-  place_none h = ap (place_from bundle name t i) (let e : 0 ≡ n - i = omega arith in e)
+  place_found None i zero h = refl
+  place_found (Some j) i zero h = absurd (omega (arith, h.0, h.1))
+  place_found None i (suc k) h =
+      if_false _ _ _ (h i (omega arith) (omega arith)) (place_found None (i + 1) k (λ j l m. h j (omega arith) (omega arith)))
+  place_found (Some j) i (suc k) h =
+      by-test (eqb i j)
+      (λ e. let p = eqb-true i j e in if_true _ _ _ (rw (sym p) at h.2) (ap Some (sym p)))
+      (λ e.
+      let p = eqb-false i j e in
+      let q : i + 1 ≤ j = omega (arith, h.0, p) in
+      if_false _ _ _ (h.3 i (omega arith) (omega (arith, q)))
+      (place_found (Some j) (i + 1) k (q, omega (arith, h.1), h.2, λ l m o. h.3 l (omega arith) o)))

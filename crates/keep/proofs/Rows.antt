@@ -9,8 +9,8 @@ use Rattle.base.specs.declared.Range.{Range}
 use Rattle.table.specs.declared.Name.{Name}
 use Rattle.table.specs.declared.Name.TheVariants.{Plain, Joined}
 use Rattle.table.specs.declared.PropertyValue.{PropertyValue}
-use Rattle.table.specs.declared.PropertyValue.TheVariants.{NoValue, Identifier, Text, Shade, Numbers, WidthDelta}
-use Rattle.grammar.specs.Reading.{plain, digits, Test, unary, text, numeric}
+use Rattle.table.specs.declared.PropertyValue.TheVariants.{Identifier}
+use Rattle.grammar.specs.Reading.{plain, Test, text}
 use Rattle.grammar.specs.Input.{Entry, rule_entry, selector_entry, test_entry, property_entry, number_entry, color_entry}
 use Rattle.grammar.specs.Entries.{count}
 use Rattle.grammar.specs.Capacity.{Tables, add, add_all}
@@ -27,22 +27,16 @@ pub record Even (ρ : Rows) : Type 0 where
   pub numbers : length ρ.numbers ≡ ρ.tally.numbers * 1
 
 pub test_eight : (x : Test) (n : ℕ) → length (test_row x n) ≡ 8
-test_eight (unary o a) n = refl
 test_eight (text o a (plain b)) n = refl
-test_eight (text o a (digits d)) n = refl
-test_eight (numeric o a d) n = refl
+test_eight x n = refl
 
 word_eight : (r : Range) (a : Name) → length (word_row r a) ≡ 8
 word_eight r (Plain a) = refl
 word_eight r (Joined a b) = refl
 
 pub value_eight : (r : Range) (v : PropertyValue) (n : ℕ) → length (value_row r v n) ≡ 8
-value_eight r NoValue n = refl
 value_eight r (Identifier a) n = word_eight r a
-value_eight r (Text a) n = refl
-value_eight r (Shade c) n = refl
-value_eight r (Numbers a) n = refl
-value_eight r (WidthDelta d) n = refl
+value_eight r v n = refl
 
 longer : (rs vs : List ℕ) (n : ℕ) → length rs ≡ n * 8 → length vs ≡ 8 → length (rs ++ vs) ≡ (n + 1) * 8
 longer rs vs n p q = let h = length-append rs vs in omega arith
@@ -122,15 +116,7 @@ counted_row : (e : Entry) (ρ : Rows) → Counted ρ (add_row ρ e) (e ∷ [])
 unfolding count
 counted_row rule_entry ρ =
     record { rules = omega arith; selectors = omega arith; tests = omega arith; properties = omega arith; numbers = omega arith }
-counted_row (selector_entry σ) ρ =
-    record { rules = omega arith; selectors = omega arith; tests = omega arith; properties = omega arith; numbers = omega arith }
-counted_row (test_entry x) ρ =
-    record { rules = omega arith; selectors = omega arith; tests = omega arith; properties = omega arith; numbers = omega arith }
-counted_row (property_entry p) ρ =
-    record { rules = omega arith; selectors = omega arith; tests = omega arith; properties = omega arith; numbers = omega arith }
-counted_row (number_entry x) ρ =
-    record { rules = omega arith; selectors = omega arith; tests = omega arith; properties = omega arith; numbers = omega arith }
-counted_row (color_entry a c) ρ =
+counted_row e ρ =
     record { rules = omega arith; selectors = omega arith; tests = omega arith; properties = omega arith; numbers = omega arith }
 
 counted_then : (e : Entry) (es : List Entry) (ρ φ ψ : Rows) → Counted ρ φ (e ∷ []) → Counted φ ψ es → Counted ρ ψ (e ∷ es)

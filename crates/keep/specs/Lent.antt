@@ -42,22 +42,22 @@ lent_in s = lent s.tally s.rules.now s.selectors.now s.tests.now s.properties.no
 
 -- the same tables but one
 abbrev pub with_rules : Lent → Tally → List ℕ → Lent
-with_rules τ n t = lent n t τ.selectors τ.tests τ.properties τ.numbers τ.colors
+with_rules τ n t = record τ { tally = n; rules = t }
 
 abbrev pub with_selectors : Lent → Tally → List ℕ → Lent
-with_selectors τ n t = lent n τ.rules t τ.tests τ.properties τ.numbers τ.colors
+with_selectors τ n t = record τ { tally = n; selectors = t }
 
 abbrev pub with_tests : Lent → Tally → List ℕ → Lent
-with_tests τ n t = lent n τ.rules τ.selectors t τ.properties τ.numbers τ.colors
+with_tests τ n t = record τ { tally = n; tests = t }
 
 abbrev pub with_properties : Lent → Tally → List ℕ → Lent
-with_properties τ n t = lent n τ.rules τ.selectors τ.tests t τ.numbers τ.colors
+with_properties τ n t = record τ { tally = n; properties = t }
 
 abbrev pub with_numbers : Lent → Tally → List Float → Lent
-with_numbers τ n t = lent n τ.rules τ.selectors τ.tests τ.properties t τ.colors
+with_numbers τ n t = record τ { tally = n; numbers = t }
 
 abbrev pub with_colors : Lent → Tally → List ℕ → Lent
-with_colors τ n t = lent n τ.rules τ.selectors τ.tests τ.properties τ.numbers t
+with_colors τ n t = record τ { tally = n; colors = t }
 
 abbrev pub Lends : Type 0
 Lends = List (GName × ℕ)
@@ -192,34 +192,22 @@ unfoldable pub keep_of : {A : Type 0} → ℕ → List A → ℕ → List A → 
 keep_of stride t n vs f = with_option (put_of stride t n vs) (λ t. (None, t)) λ m t. (Some (f m), t)
 
 abbrev pub one_number : Tally → ℕ → Tally
-one_number n m =
-    record
-    { rules = n.rules; selectors = n.selectors; tests = n.tests; properties = n.properties; numbers = m; colors = n.colors; selector = n.selector; test = n.test; property = n.property; number = n.number }
+one_number n m = record n { numbers = m }
 
 abbrev pub one_test : Tally → ℕ → Tally
-one_test n m =
-    record
-    { rules = n.rules; selectors = n.selectors; tests = m; properties = n.properties; numbers = n.numbers; colors = n.colors; selector = n.selector; test = n.test; property = n.property; number = n.numbers }
+one_test n m = record n { tests = m; number = n.numbers }
 
 abbrev pub one_property : Tally → ℕ → Tally
-one_property n m =
-    record
-    { rules = n.rules; selectors = n.selectors; tests = n.tests; properties = m; numbers = n.numbers; colors = n.colors; selector = n.selector; test = n.test; property = n.property; number = n.numbers }
+one_property n m = record n { properties = m; number = n.numbers }
 
 abbrev pub one_selector : Tally → ℕ → Tally
-one_selector n m =
-    record
-    { rules = n.rules; selectors = m; tests = n.tests; properties = n.properties; numbers = n.numbers; colors = n.colors; selector = n.selector; test = n.tests; property = n.property; number = n.number }
+one_selector n m = record n { selectors = m; test = n.tests }
 
 abbrev pub one_rule : Tally → ℕ → Tally
-one_rule n m =
-    record
-    { rules = m; selectors = n.selectors; tests = n.tests; properties = n.properties; numbers = n.numbers; colors = n.colors; selector = n.selectors; test = n.test; property = n.properties; number = n.number }
+one_rule n m = record n { rules = m; selector = n.selectors; property = n.properties }
 
 abbrev pub one_color : Tally → ℕ → Tally
-one_color n m =
-    record
-    { rules = n.rules; selectors = n.selectors; tests = n.tests; properties = n.properties; numbers = n.numbers; colors = m; selector = n.selector; test = n.test; property = n.property; number = n.number }
+one_color n m = record n { colors = m }
 
 unfoldable pub keep_number_of : Tally → List Float → Float → Option Tally × List Float
 keep_number_of n t x = keep_of 1 t n.numbers (x ∷ []) (one_number n)

@@ -138,7 +138,7 @@ impl Store<'_> {
     fn place_of(&self, bundle: &[u8], name: Range) -> Option<usize>
         ensures { result ≡ place_from bundle.now (within name bundle.now) self.now.colors.now 0 self.now.tally.colors }
     {
-        find_color(bundle, &self.colors[..], self.tally.colors, name)
+        find_color(bundle, self.colors, self.tally.colors, name)
     }
 
     fn add_color(&mut self, name: Range, c: Color) -> Option<()>
@@ -154,16 +154,16 @@ impl Store<'_> {
 fn put_value(t: &mut [u32], n: usize, name: Range, value: PropertyValue, x: usize) -> Option<usize>
     ensures { (result, t.new) ≡ put_of 8 t.old n (value_row name value x) }
 {
-    let (kind, a, b, c, d) = match value {
-        PropertyValue::NoValue => (0, 0, 0, 0, 0),
-        PropertyValue::Identifier(Name::Plain(a)) => (1, a.from, a.to, 0, 0),
-        PropertyValue::Identifier(Name::Joined(a, b)) => (2, a.from, a.to, b.from, b.to),
-        PropertyValue::Text(a) => (3, a.from, a.to, 0, 0),
-        PropertyValue::Shade(c) => (4, usize::from(c.r), usize::from(c.g), usize::from(c.b), 0),
-        PropertyValue::Numbers(a) => (5, a.from, a.to, 0, 0),
-        PropertyValue::WidthDelta(_) => (6, x, 0, 0, 0),
+    let (kind, words) = match value {
+        PropertyValue::NoValue => (0, [0; 4]),
+        PropertyValue::Identifier(Name::Plain(a)) => (1, [a.from, a.to, 0, 0]),
+        PropertyValue::Identifier(Name::Joined(a, b)) => (2, [a.from, a.to, b.from, b.to]),
+        PropertyValue::Text(a) => (3, [a.from, a.to, 0, 0]),
+        PropertyValue::Shade(c) => (4, [usize::from(c.r), usize::from(c.g), usize::from(c.b), 0]),
+        PropertyValue::Numbers(a) => (5, [a.from, a.to, 0, 0]),
+        PropertyValue::WidthDelta(_) => (6, [x, 0, 0, 0]),
     };
-    entries::put_property(t, n, kind, name, a, b, c, d)
+    entries::put_property(t, n, kind, name, words)
 }
 
 fn recolor(colors: &mut [u32], i: usize, c: Color)
@@ -183,12 +183,7 @@ pub fn find_color(bundle: &[u8], colors: &[u32], n: usize, name: Range) -> Optio
     ensures { result ≡ place_from bundle.now (within name bundle.now) colors.now 0 n }
 {
     let wanted = base::part(bundle, name);
-    for i in 0..n {
-        if has_name(bundle, colors, i, wanted) {
-            return Some(i);
-        }
-    }
-    None
+    (0..n).find(|&i| has_name(bundle, colors, i, wanted))
 }
 
 // Whether colour i has a name.

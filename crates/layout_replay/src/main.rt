@@ -2,13 +2,14 @@
 // whose answer differs, then the totals.
 #![tactic(auto)]
 
-ghost use Rattle.std.specs.Prelude.{◌≡◌, ◌+◌, ◌*◌, ◌≤◌, ◌<◌, length, IfSome};
+ghost use Rattle.std.specs.Prelude.{◌≤◌, ◌<◌, length, IfSome};
 
 use base::refusal::Refusal;
 use base::{Range, byte_at, part};
 use entity::{EntityRange, Sort, StreamPlace};
 use std::io;
 use stdio::cases::{piece_at, replay, word_at};
+use stdio::zeros;
 
 fn main(rt: HostRuntime) -> io::Result<()> {
     replay(&mut rt.stdin(), &mut rt.stdout(), case_at)
@@ -25,7 +26,7 @@ fn case_at(s: &[u8], at: usize) -> Option<(usize, bool)>
     if s.len() < end {
         return None;
     }
-    let mut input = input_buffer();
+    let mut input = zeros::<1048640>();
     let n = fill_input(
         &mut input,
         part(s, prefix),
@@ -34,13 +35,6 @@ fn case_at(s: &[u8], at: usize) -> Option<(usize, bool)>
     );
     let given = part(&input, Range { from: 0, to: n });
     Some((end, answers(s[at], given, &s[words..end])))
-}
-
-// Room for the longest input.
-fn input_buffer() -> [u8; 1048640]
-    ensures { 1048640 ≡ length result }
-{
-    [0; 1048640]
 }
 
 // The input of a case: its prefix, then the fill byte so many times. Answers its length.
@@ -61,8 +55,8 @@ fn answers(entry: u8, s: &[u8], w: &[u8]) -> bool {
         2 => stream_answers(s, Sort::Nodes, false, w),
         3 => stream_answers(s, Sort::Areas, false, w),
         4 => stream_answers(s, Sort::Areas, true, w),
-        5 => number_answers(s, 4294967295, w),
-        6 => number_answers(s, 18446744073709551615, w),
+        5 => number_answers(s, u64::from(u32::MAX), w),
+        6 => number_answers(s, u64::MAX, w),
         _ => false,
     }
 }
@@ -114,7 +108,7 @@ fn range_is(r: Range, w: &[u8]) -> bool {
 
 fn entity_is(e: EntityRange, w: &[u8]) -> bool {
     is_word(w, 0, 0)
-        && is_word(w, 1, e.kind as u64)
+        && is_word(w, 1, u64::from(e.kind))
         && is_word(w, 2, e.id % 4294967296)
         && is_word(w, 3, e.id / 4294967296)
         && is_word(w, 4, e.tags as u64)
@@ -139,12 +133,8 @@ fn stream_answers(s: &[u8], sort: Sort, multipolygons: bool, w: &[u8]) -> bool {
             place,
         };
         match entity::next_entity(s, sort, at, here) {
-            Err(r) => {
-                return refusal_is(r, told);
-            }
-            Ok(None) => {
-                return is_word(told, 0, 2);
-            }
+            Err(r) => return refusal_is(r, told),
+            Ok(None) => return is_word(told, 0, 2),
             Ok(Some(e)) => {
                 let part = Range {
                     from: at,

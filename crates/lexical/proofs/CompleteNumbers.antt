@@ -10,7 +10,6 @@ use borrow.Author.Tests.{leb-true, lt-leb, ltb-false, ne_eqb}
 use Rattle.base.specs.Bytes.{Bytes}
 use Rattle.base.specs.Choice.{pick, by-test, and_right}
 use Rattle.base.specs.Turns.{Turn, more, done, after, turns}
-use Rattle.space.specs.Space.{among, is_white_space}
 use Rattle.cursor.specs.Class.{in_span, can_start_identifier, digit_value, to_digit}
 use Rattle.cursor.specs.Cursor.{most, bump, next_char}
 use Rattle.cursor.specs.Number.{dotted, digit_added, takes_dot, digits, digits_turn, read_digits}
@@ -19,7 +18,6 @@ use Rattle.cursor.specs.declared.number.Digits.{Digits}
 use Rattle.cursor.specs.declared.number.Sum.{Sum}
 use Rattle.token_number.specs.Number.{is_bare_dot, finish_number, first_digit, read_unsigned, read_signed, read_number}
 use Rattle.token.specs.Read.{read_after_minus, read_other, starts_number, read_long}
-use Rattle.token_kind.specs.Signs.{is_pair, first_pair, first_letter, get_two_char_simple_token, get_one_char_simple_token}
 use Rattle.token_kind.specs.declared.Token.{Token}
 use Rattle.token_kind.specs.declared.Token.TheVariants.{Number}
 use Rattle.lexical.specs.Lexical.{Chars, is_digit, is_dot, begins, Run, none, one, IsUnsigned, whole, mixed, fraction, added, added_all, number_of}
@@ -27,7 +25,7 @@ use Rattle.lexical.specs.Lexed.{characters_at}
 use Rattle.lexical.proofs.Characters.{Walk, here, step, walk_past, walk_short, stopped}
 use Rattle.lexical.proofs.Letters.{apart, digit_no_sign, digit_no_pair, digit_no_space, digit_span}
 use Rattle.lexical.proofs.SoundNumbers.{digit_dot}
-use Rattle.lexical.proofs.CompleteWords.{Taken, long}
+use Rattle.lexical.proofs.CompleteWords.{Taken, by_first, long}
 use Rattle.std.specs.Prelude.{Some, None, Ok, Result, Err}
 use Rattle.base.specs.Option.{on_option, on_result, on_result2}
 
@@ -274,7 +272,7 @@ module _ (s : Bytes) where
       r)
 
   dot_taken : (c d : Cursor) {t : Token} {e : Cursor} → next_char s c ≡ Ok (46, d) → read_unsigned s false 46 d ≡ Ok (t, e) → Taken s c t e
-  unfolding is_white_space among get_two_char_simple_token first_pair is_pair get_one_char_simple_token first_letter read_long can_start_identifier starts_number read_number pick
+  unfolding by_first can_start_identifier starts_number read_number
   dot_taken c d q r = long s c d 46 q refl refl (λ j. refl) refl r
 
   pub number_taken :
@@ -298,7 +296,7 @@ module _ (s : Bytes) where
       → IsUnsigned ks (characters_at s e.at)
       → Walk s d ks e
       → Taken s c (Number (number_of false ks)) e
-  unfolding is_white_space among get_two_char_simple_token first_pair is_pair get_one_char_simple_token first_letter read_long can_start_identifier starts_number read_number pick
+  unfolding by_first can_start_identifier starts_number read_number
   plus_taken c d q u w = long s c d 43 q refl refl (λ j. refl) refl (signed false u w)
 
   pub minus_taken :
@@ -309,6 +307,6 @@ module _ (s : Bytes) where
       → IsUnsigned (k ∷ ks) (characters_at s e.at)
       → Walk s f ks e
       → Taken s c (Number (number_of true (k ∷ ks))) e
-  unfolding is_white_space among get_two_char_simple_token first_pair is_pair get_one_char_simple_token first_letter read_long can_start_identifier starts_number read_other read_after_minus read_number on_result pick
+  unfolding by_first can_start_identifier starts_number read_other read_after_minus read_number on_result
   minus_taken c d {k = k} q p h u w =
       long s c d 45 q refl refl (λ j. refl) refl (rw (p, digit_span k ∙ h) (signed true u (step p w)))

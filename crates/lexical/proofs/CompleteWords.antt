@@ -103,6 +103,11 @@ unpaired (Some t) e = clash refl e
 abbrev run_next : (ℕ → Bool) → Cursor → Result (ℕ × Cursor) Cursor → Turn Cursor Cursor
 run_next p c y = on_result2 y (λ d. done c) λ k d. pick (p k) (more d) (done c)
 
+-- what a first character that is known runs through
+unfoldable pub by_first : Unit {0}
+unfolding is_white_space among get_two_char_simple_token first_pair is_pair get_one_char_simple_token first_letter read_long pick
+by_first = tt
+
 module _ (s : Bytes) where
   -- a run of a class, up to where it stops
   run_turns :
@@ -176,7 +181,7 @@ module _ (s : Bytes) where
 
   -- * and names
   pub star_taken : (c d : Cursor) → next_char s c ≡ Ok (42, d) → Taken s c (Identifier (range c.at d.at)) d
-  unfolding is_white_space among get_two_char_simple_token first_pair is_pair get_one_char_simple_token first_letter read_long pick
+  unfolding by_first
   star_taken c d q = long c d 42 q refl refl (λ j. refl) refl refl
 
   pub name_taken :
@@ -202,7 +207,7 @@ module _ (s : Bytes) where
       → Run can_continue_identifier true ks
       → begins can_continue_identifier (characters_at s g.at) ≡ false
       → Taken s c (Identifier (range c.at g.at)) g
-  unfolding is_white_space among get_two_char_simple_token first_pair is_pair get_one_char_simple_token first_letter read_long starts_number read_other read_after_minus read_identifier can_start_identifier on_result pick
+  unfolding by_first starts_number read_other read_after_minus read_identifier can_start_identifier on_result
   hyphen_taken c d e {k = k} q p h n w r b =
       long c d 45 q refl refl (λ j. refl) refl
       (rw (p, digit_span k ∙ n, h, identifier_end_lem (step p w) (one h r) b))
@@ -214,7 +219,7 @@ module _ (s : Bytes) where
       → Run is_quote false ks
       → next_char s e ≡ Ok (34, g)
       → Taken s c (Text (range d.at e.at)) g
-  unfolding is_white_space among get_two_char_simple_token first_pair is_pair get_one_char_simple_token first_letter read_long read_string can_start_identifier on_result pick
+  unfolding by_first read_string can_start_identifier on_result
   string_taken c d e g q w r p = long c d 34 q refl refl (λ j. refl) refl (rw (quoted w r p))
 
   -- signs
@@ -281,7 +286,7 @@ module _ (s : Bytes) where
       → next_char s c ≡ Ok (64, d)
       → read_at_directive s d ≡ Ok (t, e)
       → Taken s c t e
-  unfolding is_white_space among get_two_char_simple_token first_pair is_pair get_one_char_simple_token first_letter read_long pick
+  unfolding by_first
   at_taken c d q r = long c d 64 q refl refl (λ j. refl) refl r
 
   pub reference_taken :

@@ -10,13 +10,11 @@ use borrow.Author.Tests.{ltb-true}
 use Rattle.base.specs.Bytes.{Bytes}
 use Rattle.base.specs.Choice.{pick}
 use Rattle.base.specs.Turns.{turns}
-use Rattle.space.specs.Space.{among, is_white_space}
 use Rattle.color.specs.Named.{rgb}
 use Rattle.cursor.specs.Class.{can_start_identifier, digit_value, to_digit}
 use Rattle.cursor.specs.Cursor.{bump, next_char}
 use Rattle.cursor.specs.declared.Cursor.{Cursor}
-use Rattle.token.specs.Read.{starts_number, read_other, read_long}
-use Rattle.token_kind.specs.Signs.{is_pair, first_pair, first_letter, get_two_char_simple_token, get_one_char_simple_token}
+use Rattle.token.specs.Read.{starts_number, read_other}
 use Rattle.token_zoom.specs.Zoom.{
   read_digit,
   hex,
@@ -57,7 +55,7 @@ use Rattle.lexical.specs.Lexed.{characters_at}
 use Rattle.lexical.proofs.Characters.{Walk, here, step, walk_characters, walk_split, walk_past, walk_short, stops_got, stop_split}
 use Rattle.lexical.proofs.Letters.{apart}
 use Rattle.lexical.proofs.SoundZoom.{three_digits_lem}
-use Rattle.lexical.proofs.CompleteWords.{Taken, long}
+use Rattle.lexical.proofs.CompleteWords.{Taken, by_first, long}
 use Rattle.lexical.proofs.CompleteNumbers.{is_digit_lem, is_no_digit}
 use Rattle.std.specs.Prelude.{Option, Some, None, Ok}
 use Rattle.base.specs.Option.{on_option, on_result, on_result2}
@@ -156,7 +154,7 @@ module _ (s : Bytes) where
       → IsZooms ks (characters_at s e.at) min max
       → Walk s f ks e
       → Taken s c (ZoomRange min max) e
-  unfolding is_white_space among get_two_char_simple_token first_pair is_pair get_one_char_simple_token first_letter read_long can_start_identifier starts_number read_other read_zoom_range on_result pick
+  unfolding by_first can_start_identifier starts_number read_other read_zoom_range on_result
   zoom_taken c d f q p z w = long s c d 124 q refl refl (λ j. refl) refl (rw p (levels z w))
 
   -- colours
@@ -200,7 +198,7 @@ module _ (s : Bytes) where
       → Run is_hex_digit true (k1 ∷ k2 ∷ k3 ∷ [])
       → begins is_hex_digit (characters_at s e.at) ≡ false
       → Taken s c (Color (rgb (17 * digit_value k1) (17 * digit_value k2) (17 * digit_value k3))) e
-  unfolding is_white_space among get_two_char_simple_token first_pair is_pair get_one_char_simple_token first_letter read_long can_start_identifier starts_number read_other read_color pick
+  unfolding by_first can_start_identifier starts_number read_other read_color
   three_taken c d {k1 = k1} {k2 = k2} {k3 = k3} q w (one h (one g (one i none))) b =
       long s c d 35 q refl refl (λ j. refl) refl
       (rw (
@@ -238,7 +236,7 @@ module _ (s : Bytes) where
       → Run is_hex_digit true (k1 ∷ k2 ∷ k3 ∷ k4 ∷ k5 ∷ k6 ∷ [])
       → begins is_hex_digit (characters_at s e.at) ≡ false
       → Taken s c (Color (rgb (16 * digit_value k1 + digit_value k2) (16 * digit_value k3 + digit_value k4) (16 * digit_value k5 + digit_value k6))) e
-  unfolding is_white_space among get_two_char_simple_token first_pair is_pair get_one_char_simple_token first_letter read_long can_start_identifier starts_number read_other read_color pick
+  unfolding by_first can_start_identifier starts_number read_other read_color
   six_taken c d q w (one {k = k1} h1 (one {k = k2} h2 (one {k = k3} h3 (one {k = k4} h4 (one {k = k5} h5 (one {k = k6} h6 none)))))) b =
       long s c d 35 q refl refl (λ j. refl) refl
       (rw (

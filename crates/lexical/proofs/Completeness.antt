@@ -7,7 +7,7 @@ use mathlib.Core.List.{[], ◌∷◌, ◌++◌}
 use lib.Dec.{eqb}
 use lib.ListN.{length, length-append}
 use Rattle.base.specs.Bytes.{Bytes}
-use Rattle.base.specs.Choice.{pick}
+use Rattle.base.specs.Choice.{pick, different}
 use Rattle.base.specs.declared.Range.{Range}
 use Rattle.base.specs.Turns.{turns}
 use Rattle.space.specs.Space.{among, is_white_space}
@@ -93,15 +93,6 @@ use Rattle.base.specs.Option.{on_option, on_result}
 use Rattle.std.specs.Prelude.{Some, Result, Ok, Err}
 use Rattle.token.specs.declared.Step.{Step}
 use Rattle.token_kind.specs.declared.LexerError.{LexerError}
-
-nil_cons : {k : ℕ} {ks : Chars} → [] ≡ k ∷ ks → ⊥
-nil_cons q = let z : ◌≡◌ {A = ℕ} 0 1 = cc in omega arith
-
-cons_head : {k j : ℕ} {ks js : Chars} → k ∷ ks ≡ j ∷ js → k ≡ j
-cons_head q = cc
-
-cons_tail : {k j : ℕ} {ks js : Chars} → k ∷ ks ≡ j ∷ js → ks ≡ js
-cons_tail q = cc
 
 module _ (s : Bytes) where
   -- comments
@@ -262,15 +253,16 @@ module _ (s : Bytes) where
     where
       go : (x : Result (ℕ × Cursor) Cursor) → next_char s c ≡ x → All c []
       go (Err d) q = record { last = c; over = d; walked = here; ends = q }
-      go (Ok (k, d)) q = absurd (nil_cons (sym e ∙ characters_got s c d q))
+      go (Ok (k, d)) q = let m = sym e ∙ characters_got s c d q in different cc
   all (k ∷ ks) c e = go (λ d. all ks d) (next_char s c) refl
     where
       go : ((d : Cursor) → characters_at s d.at ≡ ks → All d ks) → (x : Result (ℕ × Cursor) Cursor) → next_char s c ≡ x → All c (k ∷ ks)
-      go h (Err d) q = absurd (nil_cons (sym (characters_done s c d q) ∙ e))
+      go h (Err d) q = let m = sym (characters_done s c d q) ∙ e in different cc
       go h (Ok (j, d)) q =
           let m = sym (characters_got s c d q) ∙ e in
-          let r = h d (cons_tail m) in
-          let q' = subst (λ j. next_char s c ≡ Ok (j, d)) (cons_head m) q in
+          let r = h d cc in
+          let p : j ≡ k = cc in
+          let q' = subst (λ j. next_char s c ≡ Ok (j, d)) p q in
           record { last = r.last; over = r.over; walked = step q' r.walked; ends = r.ends }
 
 pub complete_end : CompleteEnd

@@ -302,13 +302,8 @@ module _ (s : Bytes) (b c d : Cursor) (q : next_char s b ≡ Ok (35, c)) (n : be
       in
       subst (λ t. Readied s b t d) (sym (ap (λ v. Color (six_digits v)) p ∙ ap (λ z. Color z) x))
       (bare (sixHex (one t₁ (one t₂ (one t₃ (one t₄ (one t₅ (one t₆ none)))))) n) (step q w))
-  six_color [] w r e p = absurd (omega arith)
-  six_color (k₁ ∷ []) w r e p = absurd (omega arith)
-  six_color (k₁ ∷ k₂ ∷ []) w r e p = absurd (omega arith)
-  six_color (k₁ ∷ k₂ ∷ k₃ ∷ []) w r e p = absurd (omega arith)
-  six_color (k₁ ∷ k₂ ∷ k₃ ∷ k₄ ∷ []) w r e p = absurd (omega arith)
-  six_color (k₁ ∷ k₂ ∷ k₃ ∷ k₄ ∷ k₅ ∷ []) w r e p = absurd (omega arith)
   six_color (k₁ ∷ k₂ ∷ k₃ ∷ k₄ ∷ k₅ ∷ k₆ ∷ k₇ ∷ ks) w r e p = let g = counted_grows 7 ks in absurd (omega arith)
+  six_color ks w r e p = absurd (omega arith)
 
   three_color :
       (ks : Chars)
@@ -325,10 +320,8 @@ module _ (s : Bytes) (b c d : Cursor) (q : next_char s b ≡ Ok (35, c)) (n : be
       in
       subst (λ t. Readied s b t d) (sym (ap (λ v. Color (three_digits v)) p ∙ ap (λ z. Color z) x))
       (bare (threeHex (one t₁ (one t₂ (one t₃ none))) n) (step q w))
-  three_color [] w r e p = absurd (omega arith)
-  three_color (k₁ ∷ []) w r e p = absurd (omega arith)
-  three_color (k₁ ∷ k₂ ∷ []) w r e p = absurd (omega arith)
   three_color (k₁ ∷ k₂ ∷ k₃ ∷ k₄ ∷ ks) w r e p = let g = counted_grows 4 ks in absurd (omega arith)
+  three_color ks w r e p = absurd (omega arith)
 
 pub reads_color : (s : Bytes) (b c : Cursor) → next_char s b ≡ Ok (35, c) → Known s b (read_color s c)
 unfolding read_color

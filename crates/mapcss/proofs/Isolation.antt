@@ -1,12 +1,12 @@
 -- Demand 3 on the calls, from the calls' own promises and demand 3 on rules; and the styles beside a loaded sheet.
 use Prim.Native.Nat.{ℕ}
-use native.Mathlib.Omega.{arith}
 use mathlib.Core.Path.{◌≡◌, refl, sym, ap, ap₂, ◌∙◌, subst}
 use mathlib.Core.List.Memᴰ
 use mathlib.Core.List.{List, [], ◌∷◌, ◌++◌, map, flat_map, Memᴰ}
 use mathlib.Core.Option.{Option}
 use lib.IntN.{ℤ}
 use Rattle.base.specs.Bytes.{Bytes}
+use Rattle.base.specs.Choice.{different}
 use Rattle.base.specs.Map.{Entry, lookup}
 use Rattle.base.specs.Entity.{Entity}
 use Rattle.entity.specs.Layout.{single_of, value_of}
@@ -95,7 +95,7 @@ answer_layers :
     (x : Handed) (m : Result ℕ Refusal × List ℕ) (v : Layers Value)
     → maps_answered x.bundle x.counts x.tables m ≡ layers v
     → layers_in x m ≡ v
-answer_layers x (Err e, t) v p = let z : ◌≡◌ {A = ℕ} 0 1 = cc in absurd (omega arith)
+answer_layers x (Err e, t) v p = different cc
 answer_layers x (Ok n, t) v p = cc
 
 styled_answer :
@@ -104,7 +104,7 @@ styled_answer :
     → styled (styles_shown x.bundle x.counts x.tables k) ≡ styling_of (settings_shown s) (entity_of x) a
     → Styled' zoom s x k
 unfolding styling_of
-styled_answer zoom s x k (refused n) w p = let z : ◌≡◌ {A = ℕ} 0 1 = cc in absurd (omega arith)
+styled_answer zoom s x k (refused n) w p = different cc
 styled_answer zoom s x k (layers v) w p =
     let l : layers_of zoom x ≡ v = answer_layers x (maps zoom x) v (maps_told zoom x ∙ w) in
     let q : styles_shown x.bundle x.counts x.tables k ≡ theory.styles (settings_shown s) (entity_of x) v = cc in

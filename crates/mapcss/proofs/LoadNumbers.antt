@@ -18,7 +18,7 @@ use Rattle.token.specs.declared.Step.TheVariants.{End, Took}
 use Rattle.token_kind.specs.declared.Token.{Token as Token'}
 use Rattle.grammar.specs.Accepted.{load_into}
 use Rattle.grammar.specs.Capacity.{Tables, empty, limited}
-use Rattle.grammar.specs.Input.{Entry, Next, broken, end, token, Reason, number_of, end_of_file, object_type, unexpected, expected, color_reference, eval_form, no_text, not_whole, too_deep, full, Input, over, Answer, refused, read, on_next, on_option, after, keep}
+use Rattle.grammar.specs.Input.{Entry, Next, broken, end, token, Reason, number_of, no_text, not_whole, too_deep, full, Input, over, Answer, refused, read, on_next, on_option, after, keep}
 use Rattle.grammar.specs.Reader.{to_binary_string_test_type, to_binary_numeric_test_type, width_increment, is_colors, read_mandatory_token, expect_simple_token, read_identifier, read_operand, read_number, plain_test, bang_test, read_key, read_test, read_number_list, tokens_to_semi_colon, read_simple_eval, end_value, read_property_value, read_properties, read_parts, read_selector, skip_colors, read_body, read_rule, read_color_def, parse, import_file, load}
 use Rattle.grammar.specs.Reading.{Value, Selector, Colors, color_named, bare, with_zoom, with_test, with_layer, id_to_object_type, Reading}
 use Rattle.grammar.specs.Token.{Name, joined, Sign, Token, right_bracket, left_bracket, left_brace, right_brace, bang, question_mark, colon, double_colon, semi_colon, comma}
@@ -298,16 +298,11 @@ next_listed_lem bundle s c =
     step_split (NextFair Listed) (next_of bundle s c) _ _ _ (λ e. later (later first)) (λ d. tt) (λ t a b d. tt)
 
 reason_listed : (r : Reason) → OneOf load_numbers (number_of r).0
-reason_listed end_of_file = later (later (later first))
-reason_listed object_type = later (later (later first))
-reason_listed unexpected = later (later (later first))
-reason_listed expected = later (later (later first))
-reason_listed color_reference = later (later (later first))
-reason_listed eval_form = later (later (later first))
 reason_listed no_text = later (later (later (later first)))
 reason_listed not_whole = later (later (later (later (later first))))
 reason_listed (full e) = later (later (later (later (later (later first)))))
 reason_listed too_deep = later (later (later (later (later (later (later first))))))
+reason_listed r = later (later (later first))
 
 abbrev CheckedIn : Result ℕ Refusal → Type 0
 CheckedIn (Err e) = Listed e

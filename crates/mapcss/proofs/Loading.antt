@@ -21,11 +21,10 @@ use Rattle.input.specs.Source.{Spot}
 use Rattle.parser.proofs.LoadLaws.{short_bundle}
 use Rattle.parser.specs.Load.{Held, zeros, held_in, counts_of, sheet_at, loaded, load_of}
 use Rattle.parser.specs.declared.Counts.{Counts}
-use Rattle.decode.proofs.Drawn.{reading_drawn}
 use Rattle.decode.proofs.Spells.{filled_spell}
 use Rattle.decode.specs.Decode.{rules_at}
 use Rattle.sheet.specs.Sheet.{Rule, Value}
-use Rattle.sound.proofs.Drawn.{reading_lies}
+use Rattle.sound.proofs.Drawn.{reading_drawn, reading_lies}
 use Rattle.sound.proofs.Passing.{tables_pass}
 use Rattle.valid.specs.Valid.{tables_sound}
 use Rattle.printing.specs.Plate.{five_of}

@@ -6,6 +6,7 @@ use mathlib.Core.List.{List, [], ◌∷◌, ◌++◌}
 use lib.Dec.{eqb, leb, ltb}
 use lib.Ieee.{Float}
 use lib.ListN.{length}
+use Rattle.std.proofs.lemmas.Bool.{cond_both}
 use Rattle.base.specs.Bytes.{Bytes, same}
 use Rattle.base.specs.Choice.{pick_split}
 use Rattle.base.specs.Refusal.{of_entity}
@@ -17,7 +18,6 @@ use Rattle.entity.specs.declared.Sort.{Sort}
 use Rattle.entity.specs.declared.Sort.TheVariants.{Any, Nodes, Areas}
 use Rattle.cascade.specs.Clause.{star}
 use Rattle.cascade.specs.Match.{Verdict, pass, fail, out}
-use Rattle.grammar.proofs.ViewLaws.{test_holds}
 use Rattle.valid.specs.Valid.{tables_sound}
 use Rattle.valid.specs.declared.Counts.{Counts}
 use Rattle.walk.specs.Maps.{finish, walk_of, maps_of}
@@ -120,7 +120,7 @@ bind_in (going n t) f h g = g n t
 module _ (name : ℕ → Bytes) where
   assign_in : (t : List ℕ) (m i : ℕ) (ps : List ℕ) → RunIn (assign_at name t m i ps)
   unfolding assign_at
-  assign_in t m i ps = test_holds RunIn (ltb (length (grown name t i ps)) 129) _ _ (λ e. tt) (λ e. n24)
+  assign_in t m i ps = cond_both (ltb (length (grown name t i ps)) 129) _ _ RunIn (λ e. tt) (λ e. n24)
 
   assign_all_in : (t : List ℕ) (m i k : ℕ) (ps : List ℕ) → RunIn (assign_all name t m i k ps)
   unfolding assign_all
@@ -131,14 +131,14 @@ module _ (name : ℕ → Bytes) where
   module _ (layer : ℕ → Bytes) where
     touch_in : (t : List ℕ) (m j s : ℕ) (ps : List ℕ) → RunIn (touch_of name layer t m j s ps)
     unfolding touch_of
-    touch_in t m j s ps = test_holds RunIn (same star (layer s)) _ _ (λ e. assign_all_in t m 0 m ps) (λ e. assign_in t m j ps)
+    touch_in t m j s ps = cond_both (same star (layer s)) _ _ RunIn (λ e. assign_all_in t m 0 m ps) (λ e. assign_in t m j ps)
 
     step_in : (t : List ℕ) (n s : ℕ) (ps : List ℕ) → RunIn (step_of name layer t n s ps)
     unfolding step_of
     step_in t n s ps =
         let j = seek layer t (layer s) 0 n in
-        test_holds RunIn (ltb j n) _ _ (λ e. touch_in t n j s ps)
-        (λ e. test_holds RunIn (ltb n 32) _ _ (λ e. touch_in (new_row layer t n s) (n + 1) n s ps) (λ e. n23))
+        cond_both (ltb j n) _ _ RunIn (λ e. touch_in t n j s ps)
+        (λ e. cond_both (ltb n 32) _ _ RunIn (λ e. touch_in (new_row layer t n s) (n + 1) n s ps) (λ e. n23))
 
     verdict_in_lem : (v : Verdict) (a b : Run) → RunIn a → RunIn b → RunIn (on_verdict v a b)
     verdict_in_lem pass a b x y = x

@@ -1,15 +1,13 @@
 -- A drawing list that is not refused: what a stream gives within its room is what it gives without a bound, and the list is its sort.
 use Prim.Native.Nat.{ℕ, suc, ◌+◌}
-use native.Mathlib.Omega.{arith}
 use mathlib.Core.Path.{◌≡◌, refl, sym, ap, ◌∙◌}
 use mathlib.Core.Bool.{Bool, true, false}
 use mathlib.Core.List.{List, [], ◌∷◌, ◌++◌, map, append-nil}
 use mathlib.Core.Option.{Option, none, some}
 use lib.Dec.{ltb}
 use lib.ListN.{length}
-use Rattle.base.specs.Choice.{by-test}
+use Rattle.base.specs.Choice.{by-test, different}
 use Rattle.base.specs.Entity.{Entity}
-use Rattle.base.specs.Refusal.{refusal}
 use Rattle.base.specs.Table.{padded, flat}
 use Rattle.base.specs.declared.refusal.Refusal.{Refusal}
 use Rattle.entity.specs.Layout.{Stream, stream_of}
@@ -17,7 +15,7 @@ use Rattle.entity.specs.declared.Sort.TheVariants.{Nodes, Areas}
 use Rattle.sheet.specs.Sheet.{Rule, Value}
 use Rattle.sheet.specs.Digits.{digits_for}
 use Rattle.cascade.specs.Draw.{Drawn, Drawing, declined, entries, not_after, entity_drawing, join, stream, fit, size, stream_within}
-use Rattle.cascade.proofs.DrawProof.{declined_entries, joined, entities_ordered, areas_ordered}
+use Rattle.cascade.proofs.DrawProof.{joined, entities_ordered, areas_ordered}
 use Rattle.cascade.specs.Sort.{sort}
 use Rattle.cascade.specs.Style as theory
 use Rattle.cascade.specs.Walk.{property_maps}
@@ -43,18 +41,18 @@ unfolding fit
 fit_entries room n (declined r) xs p = p
 fit_entries room n (entries ys) xs p =
     by-test (ltb room (n + length ys))
-    (λ h. declined_entries (refusal 25 0 0 0 0) xs (rw h at p))
+    (λ h. let q = rw h at p in different cc)
     (λ h. rw h at p)
 
 ended_entries : (o : Option Refusal) (xs : List Drawn) → ended o ≡ entries xs → xs ≡ []
 unfolding ended
 ended_entries none xs p = cc
-ended_entries (some r) xs p = declined_entries r xs p
+ended_entries (some r) xs p = different cc
 
 ended_none : (o : Option Refusal) (xs : List Drawn) → ended o ≡ entries xs → o ≡ none
 unfolding ended
 ended_none none xs p = refl
-ended_none (some r) xs p = declined_entries r xs p
+ended_none (some r) xs p = different cc
 
 module _ (room : ℕ) (mp : Bool) (s : theory.Settings) (z : ℕ) (rs : List (Rule Value)) where
   within_stream :
@@ -89,7 +87,7 @@ written_entries :
     → written len d ≡ (Ok count, words)
     → (ds : List Drawn) × (d ≡ entries ds) × (count ≡ length ds) × (words ≡ padded 0 len (flat (map drawn_words ds)))
 unfolding written
-written_entries len (declined r) count words p = let q = ap (λ x. x.0) p in let z : ◌≡◌ {A = ℕ} 0 1 = cc in absurd (omega arith)
+written_entries len (declined r) count words p = let q = ap (λ x. x.0) p in different cc
 written_entries len (entries ds) count words p =
     let q = ap (λ x. x.0) p in
     (ds, refl, cc, sym (ap (λ x. x.1) p))

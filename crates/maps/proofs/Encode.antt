@@ -10,6 +10,7 @@ use lib.Dec.{ltb}
 use lib.ListN.{length, take, drop, get_or, set, replicate, length-append, length-replicate, length-set, replicate-append-replicate, take-append-drop, get_or-eq_default}
 use lib.Seq.{take_at, drop_at, set_at, get_or_at, take-append-add, drop-append-add, get_or-append-add, drop-append-le, drop-cons, take-suc-set, drop-set-lt, append_snoc, take-set-le, drop-set-add, drop-drop, split_at, length-take-le}
 use borrow.Author.Tests.{ltb-true, ltb-false}
+use Rattle.std.proofs.lemmas.List.{drop-replicate}
 use Rattle.base.specs.Bytes.{Bytes, same}
 use Rattle.base.specs.Choice.{by-test}
 use Rattle.base.specs.Map.{entry}
@@ -31,11 +32,6 @@ assign_grows name (j ∷ js) i =
 assigns_grow : (name : ℕ → Bytes) (js ps : List ℕ) → length js ≤ length (assigns name js ps)
 assigns_grow name js [] = omega arith
 assigns_grow name js (p ∷ ps) = omega (arith, assign_grows name js p, assigns_grow name (assign name js p) ps)
-
-drop_replicate : (d n : ℕ) → drop {A = ℕ} d (replicate n 0) ≡ replicate (n - d) 0
-drop_replicate zero n = let z : n - 0 ≡ n = omega arith in rw z
-drop_replicate (suc d) zero = let z : 0 - suc d ≡ 0 = omega arith in rw z
-drop_replicate (suc d) (suc n) = let z : suc n - suc d ≡ n - d = omega arith in rw z (drop_replicate d n)
 
 pub rows_append : (xs ys : Book) → rows_of (xs ++ ys) ≡ rows_of xs ++ rows_of ys
 unfolding rows_of
@@ -140,7 +136,7 @@ module _ (A : List ℕ) (y : Row) (B : List ℕ) (o : ℕ) (at : length A ≡ o)
       behind =
           ap (λ k. drop k (y.numbers ++ replicate (129 - length y.numbers) 0)) more
           ∙ drop-append-add y.numbers (replicate (129 - length y.numbers) 0) (length ks - length y.numbers)
-          ∙ drop_replicate (length ks - length y.numbers) (129 - length y.numbers)
+          ∙ drop-replicate (length ks - length y.numbers) (129 - length y.numbers) 0
           ∙ ap (λ k. replicate k 0) left
 
       skip : drop (2 + length ks) (words y ++ B) ≡ drop (length ks) ((y.numbers ++ replicate (129 - length y.numbers) 0) ++ B)

@@ -207,7 +207,7 @@ unfolding maps_of pick on_result
 maps_are bundle rules selectors tests properties numbers n zoom entity e sound one =
     rw (sound, one)
     (walk_is bundle rules selectors tests properties numbers n.rules zoom entity e false 0
-    (rules_few bundle rules selectors tests properties numbers n true (sym sound) refl))
+    (rules_few bundle rules selectors tests properties numbers n sound))
 
 pub zero_behind : ZeroBehind
 zero_behind bundle rules selectors tests properties numbers n zoom entity =

@@ -1,12 +1,11 @@
 -- A sheet alone in its bundle, and what its load answers and leaves in small tables.
-use Rattle.std.specs.Prelude.{ℕ, ◌≡◌, List, [], ◌∷◌, ◌++◌, Result, Err}
+use Rattle.std.specs.Prelude.{ℕ, ◌≡◌, [], ◌∷◌, ◌++◌, Result, Err}
 use Rattle.base.specs.Bytes.{Bytes, ascii}
 use Rattle.base.specs.Map.{entry}
 use Rattle.base.specs.Refusal.{refusal}
-use Rattle.base.specs.Table.{zero_float}
 use Rattle.bundle.specs.Bundle.{bundle_bytes}
 use Rattle.keep.specs.Encode.{Lengths, lengths}
-use Rattle.parser.specs.Load.{Held, held, zeros, load_of}
+use Rattle.parser.specs.Load.{Held, zeros, load_of}
 use Rattle.parser.specs.declared.Counts.{Counts}
 use Rattle.base.specs.declared.refusal.Refusal.{Refusal}
 

@@ -1,6 +1,6 @@
 -- An open way that meets a sheet: how many layers it gets at a zoom.
-use Rattle.std.specs.Prelude.{ℕ, ◌≡◌, List, [], ◌∷◌, Result, Ok, Err}
-use Rattle.base.specs.Bytes.{Bytes, ascii}
+use Rattle.std.specs.Prelude.{ℕ, ◌≡◌, [], ◌∷◌, Result, Ok, Err}
+use Rattle.base.specs.Bytes.{Bytes}
 use Rattle.base.specs.Entity.{Entity}
 use Rattle.base.specs.Map.{Map, entry}
 use Rattle.entity.specs.Layout.{entity_bytes}

@@ -156,10 +156,7 @@ compares_numbers TextEqual k s x a b c d e f g h = absurd (e refl)
 compares_numbers TextNotEqual k s x a b c d e f g h = absurd (f refl)
 compares_numbers NumberEqual k s x a b c d e f g h = absurd (g refl)
 compares_numbers NumberNotEqual k s x a b c d e f g h = absurd (h refl)
-compares_numbers Less k s x a b c d e f g h = refl
-compares_numbers LessOrEqual k s x a b c d e f g h = refl
-compares_numbers Greater k s x a b c d e f g h = refl
-compares_numbers GreaterOrEqual k s x a b c d e f g h = refl
+compares_numbers n k s x a b c d e f g h = refl
 
 module _ (bundle : Bytes) (t : List ℕ) (xs : List Float) (i : ℕ) where
   abbrev bound : Float
@@ -189,17 +186,7 @@ module _ (bundle : Bytes) (t : List ℕ) (xs : List Float) (i : ℕ) where
 
   test_key_of : (k : TestKind) → test_key (test_of k key text_there bound) ≡ key
   test_key_of Exists = refl
-  test_key_of NotExists = refl
-  test_key_of True = refl
-  test_key_of False = refl
-  test_key_of TextEqual = refl
-  test_key_of TextNotEqual = refl
-  test_key_of NumberEqual = refl
-  test_key_of NumberNotEqual = refl
-  test_key_of Less = refl
-  test_key_of LessOrEqual = refl
-  test_key_of Greater = refl
-  test_key_of GreaterOrEqual = refl
+  test_key_of k = refl
 
   test_key_lem : test_key (test_at bundle t xs i) ≡ key
   test_key_lem = ap test_key test_is ∙ test_key_of (test_kind (word_at t i 0))
@@ -211,17 +198,7 @@ module _ (bundle : Bytes) (t : List ℕ) (xs : List Float) (i : ℕ) where
   absent_kind : (k : TestKind) → Ok (absent_of k) ≡ fit_of (test_verdict (test_of k key text_there bound) none)
   unfolding test_verdict unary_holds text_holds equals numeric_verdict present true_value
   absent_kind Exists = refl
-  absent_kind NotExists = refl
-  absent_kind True = refl
-  absent_kind False = refl
-  absent_kind TextEqual = refl
-  absent_kind TextNotEqual = refl
-  absent_kind NumberEqual = refl
-  absent_kind NumberNotEqual = refl
-  absent_kind Less = refl
-  absent_kind LessOrEqual = refl
-  absent_kind Greater = refl
-  absent_kind GreaterOrEqual = refl
+  absent_kind k = refl
 
   absent_is : Ok (absent_of (test_kind (word_at t i 0))) ≡ none_fit
   absent_is = absent_kind (test_kind (word_at t i 0)) ∙ ap (λ z. fit_of (test_verdict z none)) (sym test_is)

@@ -2,7 +2,7 @@
 use Rattle.std.specs.Prelude.{Bool, true, false, Result, Ok, Err}
 use Rattle.sheet.specs.Sheet.{ObjectType, all, canvas, meta, node, way, area, NumericTest, less, less_or_equal, greater, greater_or_equal}
 use Rattle.table.specs.declared.kind.TestKind.{TestKind}
-use Rattle.table.specs.declared.kind.TestKind.TheVariants.{Exists, NotExists, True, False, TextEqual, TextNotEqual, NumberEqual, NumberNotEqual, Less, LessOrEqual, Greater, GreaterOrEqual}
+use Rattle.table.specs.declared.kind.TestKind.TheVariants.{NotExists, False, TextNotEqual, NumberNotEqual, Less, LessOrEqual, Greater}
 use Rattle.table.specs.declared.kind.ObjectKind.{ObjectKind}
 use Rattle.table.specs.declared.kind.ObjectKind.TheVariants.{All, Canvas, Meta, Node, Way, Area}
 use Rattle.cascade.specs.Match.{Verdict, pass, fail, out}
@@ -30,27 +30,12 @@ abbrev pub comparison_of : TestKind → NumericTest
 comparison_of Less = less
 comparison_of LessOrEqual = less_or_equal
 comparison_of Greater = greater
-comparison_of Exists = greater_or_equal
-comparison_of NotExists = greater_or_equal
-comparison_of True = greater_or_equal
-comparison_of False = greater_or_equal
-comparison_of TextEqual = greater_or_equal
-comparison_of TextNotEqual = greater_or_equal
-comparison_of NumberEqual = greater_or_equal
-comparison_of NumberNotEqual = greater_or_equal
-comparison_of GreaterOrEqual = greater_or_equal
+comparison_of k = greater_or_equal
 
 -- the answer on a tag that is absent, by the test's kind
 abbrev pub absent_of : TestKind → Bool
-absent_of Exists = false
 absent_of NotExists = true
-absent_of True = false
 absent_of False = true
-absent_of TextEqual = false
 absent_of TextNotEqual = true
-absent_of NumberEqual = false
 absent_of NumberNotEqual = true
-absent_of Less = false
-absent_of LessOrEqual = false
-absent_of Greater = false
-absent_of GreaterOrEqual = false
+absent_of k = false

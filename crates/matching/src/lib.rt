@@ -40,7 +40,7 @@ pub fn matches(tables: &Tables, zoom: u8, entity: Entity, i: usize) -> Result<bo
 fn fits_zoom(selectors: &[u32], i: usize, zoom: u8) -> bool
     ensures { result ≡ (at_least zoom (level_at (word_at selectors.now i 1)) && at_most zoom (level_at (word_at selectors.now i 2))) }
 {
-    let zoom = zoom as usize;
+    let zoom = usize::from(zoom);
     let lowest = word_of(selectors, i, 1);
     let highest = word_of(selectors, i, 2);
     lowest <= zoom + 1 && (highest == 0 || zoom < highest)

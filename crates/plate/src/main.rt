@@ -1,38 +1,25 @@
 // Reads a zoom, a bundle and an entity, and prints the layers of the entity's property maps, or `refused` with the five numbers.
 #![tactic(auto)]
 
-ghost use Rattle.std.specs.Prelude.{◌≡◌, length};
-
 use base::Range;
 use line::{layer_line, property_count, property_line, refusal_line};
 use printing::Buffers;
 use std::io;
 use std::io::Write;
+use stdio::{read_full, zeros};
 use table::Tables;
 
 fn main(rt: HostRuntime) -> io::Result<()> {
-    let mut input = input_buffer();
-    let n = stdio::read_full(&mut rt.stdin(), &mut input)?;
+    // One byte more than an input may have, so that a longer one is seen.
+    let mut input = zeros::<60001>();
+    let n = read_full(&mut rt.stdin(), &mut input)?;
     print_plate(&mut rt.stdout(), &input[..n])
-}
-
-// One byte more than an input may have, so that a longer one is seen.
-fn input_buffer() -> [u8; 60001]
-    ensures { 60001 ≡ length result }
-{
-    [0; 60001]
-}
-
-// Room for the longest line.
-fn line_buffer() -> [u8; 60064]
-    ensures { 60064 ≡ length result }
-{
-    [0; 60064]
 }
 
 fn print_plate<W: Write>(out: &mut W, input: &[u8]) -> io::Result<()> {
     let mut buffers = Buffers::new();
-    let mut line = line_buffer();
+    // Room for the longest line.
+    let mut line = zeros::<60064>();
     match printing::plate(input, &mut buffers) {
         Err(e) => {
             let n = refusal_line(e, &mut line);

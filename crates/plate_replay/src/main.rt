@@ -2,12 +2,13 @@
 // prints by. It prints the number of each case that differs, then the totals.
 #![tactic(auto)]
 
-ghost use Rattle.std.specs.Prelude.{◌≡◌, ◌+◌, ◌≤◌, ◌<◌, length, IfSome};
+ghost use Rattle.std.specs.Prelude.{◌≤◌, ◌<◌, length, IfSome};
 
 use base::{Range, part};
 use printing::Buffers;
 use std::io;
 use stdio::cases::{piece_at, replay};
+use stdio::zeros;
 use table::Tables;
 
 fn main(rt: HostRuntime) -> io::Result<()> {
@@ -32,15 +33,15 @@ fn agrees(input: &[u8], output: &[u8]) -> bool {
 // Where what plate prints ends, where the output begins with it.
 fn end_of(input: &[u8], output: &[u8]) -> Option<usize> {
     let mut buffers = Buffers {
-        rules: [4294967295; 4096],
-        selectors: [4294967295; 4096],
-        tests: [4294967295; 4096],
-        properties: [4294967295; 4096],
+        rules: [u32::MAX; 4096],
+        selectors: [u32::MAX; 4096],
+        tests: [u32::MAX; 4096],
+        properties: [u32::MAX; 4096],
         numbers: [1.5; 512],
-        colors: [4294967295; 4096],
-        maps: [4294967295; 4323],
+        colors: [u32::MAX; 4096],
+        maps: [u32::MAX; 4323],
     };
-    let mut line = [0u8; 60064];
+    let mut line = zeros::<60064>();
     match printing::plate(input, &mut buffers) {
         Err(e) => {
             let n = line::refusal_line(e, &mut line);
@@ -91,8 +92,5 @@ fn properties_behind(
 // The place behind a line, where the output has it at a place.
 fn behind(output: &[u8], at: usize, line: &[u8]) -> Option<usize> {
     let end = at.checked_add(line.len())?;
-    if base::same_bytes(part(output, Range { from: at, to: end }), line) {
-        return Some(end);
-    }
-    None
+    base::same_bytes(part(output, Range { from: at, to: end }), line).then_some(end)
 }

@@ -18,32 +18,29 @@ use Rattle.valid.specs.declared.Counts.{Counts as Counts'}
 use Rattle.walk.specs.Maps.{no_rows, maps_of}
 use Rattle.printing.specs.Frame.{frame_of, range}
 use Rattle.printing.specs.declared.Buffers.{Buffers}
-use Rattle.printing.specs.Plate.{Plate, plate, empty, room, five_of, mapped, loaded_plate, plate_of}
+use Rattle.printing.specs.Plate.{Plate, plate, room, five_of, mapped, loaded_plate, plate_of}
 use Rattle.std.specs.Prelude.{Option, Some, None, Result, Ok, Err}
 use Rattle.base.specs.Option.{option_none, option_some}
 
 -- ---- tables of zeros
 
-abbrev pub buffers : Held → List ℕ → Buffers
-buffers h t =
-    record { rules = h.rules; selectors = h.selectors; tests = h.tests; properties = h.properties; numbers = h.numbers; colors = h.colors; maps = t }
-
 pub zeroed : {A : Type 0} (z : A) (n k : ℕ) (u : List A) → u ≡ replicate n z → n ≡ k → u ≡ replicate k z
 zeroed z n k u e p = e ∙ ap (λ (k : ℕ). replicate k z) p
 
-pub room_is :
-    (a b c d e f : ℕ)
-    → a ≡ 4096
-    → b ≡ 4096
-    → c ≡ 4096
-    → d ≡ 4096
-    → e ≡ 512
-    → f ≡ 4096
-    → lengths a b c d e f ≡ room
-room_is a b c d e f p q r s t u = rw (p, q, r, s, t, u)
+-- how long the tables of buffers are
+abbrev pub room_of : Buffers → Lengths
+room_of t = lengths (length t.rules) (length t.selectors) (length t.tests) (length t.properties) (length t.numbers) (length t.colors)
 
-pub emptied : (h : Held) (t : List ℕ) → h ≡ zeros room → t ≡ no_rows → buffers h t ≡ empty
-emptied h t p q = ap₂ buffers p q
+pub room_is :
+    (t : Buffers)
+    → length t.rules ≡ 4096
+    → length t.selectors ≡ 4096
+    → length t.tests ≡ 4096
+    → length t.properties ≡ 4096
+    → length t.numbers ≡ 512
+    → length t.colors ≡ 4096
+    → room_of t ≡ room
+room_is t a b c d e f = rw (a, b, c, d, e, f)
 
 -- ---- behind the frame
 

@@ -8,7 +8,6 @@ ghost use Rattle.printing.specs.Plate.{plate_in, empty, room, loaded_plate, plat
 
 use base::Range;
 use base::refusal::{BUNDLE_LAYOUT, Refusal};
-use keep::{Store, Tally};
 use table::Tables;
 use valid::Counts;
 
@@ -42,16 +41,7 @@ impl Buffers {
     fn blank(&mut self)
         ensures { self.new ≡ empty }
     {
-        parser::blank(&mut Store {
-            rules: &mut self.rules,
-            selectors: &mut self.selectors,
-            tests: &mut self.tests,
-            properties: &mut self.properties,
-            numbers: &mut self.numbers,
-            colors: &mut self.colors,
-            tally: Tally::default(),
-        });
-        self.maps.fill(0);
+        *self = Buffers::new();
     }
 
     // The tables, beside the bundle that they were loaded from.
@@ -135,11 +125,11 @@ fn styled(
     // Not by `tables`, which would lend the maps too.
     let tables = Tables {
         bundle,
-        rules: &buffers.rules[..],
-        selectors: &buffers.selectors[..],
-        tests: &buffers.tests[..],
-        properties: &buffers.properties[..],
-        numbers: &buffers.numbers[..],
+        rules: &buffers.rules,
+        selectors: &buffers.selectors,
+        tests: &buffers.tests,
+        properties: &buffers.properties,
+        numbers: &buffers.numbers,
     };
     let k = walk::property_maps(&tables, Counts::from(n), zoom, entity, &mut buffers.maps)?;
     Ok((b, k))

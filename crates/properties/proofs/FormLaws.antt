@@ -10,8 +10,7 @@ use Rattle.base.specs.Bytes.{Bytes, ascii, same}
 use Rattle.base.specs.declared.refusal.Refusal.{Refusal}
 use Rattle.cursor.specs.declared.Cursor.{Cursor}
 use Rattle.token_kind.specs.declared.Token.{Token}
-use Rattle.token_kind.specs.declared.Token.TheVariants.{SemiColon}
-use Rattle.grammar.specs.Token.{Sign, Token as Token', import, identifier, string, color_ref, number, zoom_range, color, sign, left_paren, right_paren, semi_colon}
+use Rattle.grammar.specs.Token.{Sign, Token as Token', identifier, string, number, sign, left_paren, right_paren, semi_colon}
 use Rattle.grammar.specs.View.{is_sign, on_sign, on_identifier, on_string, on_number}
 use Rattle.grammar.specs.Reading.{Value, width_delta}
 use Rattle.grammar.specs.Input.{Answer, refused, read, number_entry, eval_form, on_option, after, fail, keep}
@@ -19,7 +18,7 @@ use Rattle.grammar.specs.Reader.{want, want_word, want_string, suffix, width_inc
 use Rattle.keep.specs.Lent.{Lent}
 use Rattle.keep.specs.Source.{reading}
 use Rattle.input.specs.Source.{Spot, spot}
-use Rattle.input.specs.Text.{token_of, same_token, left, mandatory_of, refusal_at}
+use Rattle.input.specs.Text.{token_of, left, mandatory_of, refusal_at}
 use Rattle.input.specs.declared.Place.{Place}
 use Rattle.input.specs.declared.Source.{Source}
 use Rattle.properties.specs.Eval.{no_number, sign_form, word_form, prop_form, width_form, last_form, form_next, form_all, form_result, Forms, unformed, formed, FormsFrom}
@@ -97,36 +96,20 @@ ended_more false t u ts = failed_none ts
 
 last_one : (t : Token') → on_sign right_paren t (some no_number) none ≡ result_of (last_form t) []
 unfolding form_result form_all last_form is_sign on_number
-last_one (import x) = refl
-last_one (identifier x) = refl
-last_one (string x) = refl
-last_one (color_ref x) = refl
-last_one (number x) = refl
-last_one (zoom_range x y) = refl
-last_one (color x) = refl
 last_one (sign g) = choose (is_sign right_paren (sign g)) (some no_number) (Whole no_number) [] refl
+last_one t = refl
 
 last_two : (t u : Token') → on_sign right_paren u (on_number t some none) none ≡ result_of (form_next (last_form t) u) []
 unfolding form_result form_all form_next sign_form last_form is_sign on_number
-last_two (import x) u = cond_none (is_sign right_paren u)
-last_two (identifier x) u = cond_none (is_sign right_paren u)
-last_two (string x) u = cond_none (is_sign right_paren u)
-last_two (color_ref x) u = cond_none (is_sign right_paren u)
 last_two (number x) u = choose (is_sign right_paren u) (some x) (Whole x) [] refl
-last_two (zoom_range x y) u = cond_none (is_sign right_paren u)
-last_two (color x) u = cond_none (is_sign right_paren u)
 last_two (sign g) u = cond_none (is_sign right_paren u) ∙ ended (is_sign right_paren (sign g)) no_number u []
+last_two t u = cond_none (is_sign right_paren u)
 
 last_more : (t u v : Token') (ts : List Token') → none ≡ result_of (form_next (form_next (last_form t) u) v) ts
 unfolding form_next sign_form last_form is_sign on_number
-last_more (import x) u v ts = failed_none ts
-last_more (identifier x) u v ts = failed_none ts
-last_more (string x) u v ts = failed_none ts
-last_more (color_ref x) u v ts = failed_none ts
 last_more (number x) u v ts = ended (is_sign right_paren u) x v ts
-last_more (zoom_range x y) u v ts = failed_none ts
-last_more (color x) u v ts = failed_none ts
 last_more (sign g) u v ts = ended_more (is_sign right_paren (sign g)) u v ts
+last_more t u v ts = failed_none ts
 
 suffix_is : (ts : List Token') → suffix ts ≡ result_of PropClosing ts
 unfolding form_result form_all form_next
@@ -146,14 +129,8 @@ module _ (f n : Form) (z : none ≡ form_result f) (k : List Token' → Option F
       (w : Bytes) (t : Token') (ts : List Token')
       → on_identifier t (λ a. cond (same a.bytes w) (k ts) none) none ≡ result_of (on_identifier t (λ a. cond (same a.bytes w) n Failed) Failed) ts
   unfolding on_identifier
-  word_chosen w (import x) ts = failed_none ts
   word_chosen w (identifier x) ts = choose (same x.bytes w) (k ts) n ts (h ts)
-  word_chosen w (string x) ts = failed_none ts
-  word_chosen w (color_ref x) ts = failed_none ts
-  word_chosen w (number x) ts = failed_none ts
-  word_chosen w (zoom_range x y) ts = failed_none ts
-  word_chosen w (color x) ts = failed_none ts
-  word_chosen w (sign x) ts = failed_none ts
+  word_chosen w t ts = failed_none ts
 
   word_is :
       (w : Bytes)
@@ -168,14 +145,8 @@ module _ (f n : Form) (z : none ≡ form_result f) (k : List Token' → Option F
       (w : Bytes) (t : Token') (ts : List Token')
       → on_string t (λ a. cond (same a.bytes w) (k ts) none) none ≡ result_of (on_string t (λ a. cond (same a.bytes w) n Failed) Failed) ts
   unfolding on_string
-  string_chosen w (import x) ts = failed_none ts
-  string_chosen w (identifier x) ts = failed_none ts
   string_chosen w (string x) ts = choose (same x.bytes w) (k ts) n ts (h ts)
-  string_chosen w (color_ref x) ts = failed_none ts
-  string_chosen w (number x) ts = failed_none ts
-  string_chosen w (zoom_range x y) ts = failed_none ts
-  string_chosen w (color x) ts = failed_none ts
-  string_chosen w (sign x) ts = failed_none ts
+  string_chosen w t ts = failed_none ts
 
   string_is :
       (w : Bytes)
@@ -215,14 +186,6 @@ form_is =
     behind_1 left_paren λ t. refl
 
 -- ---- the tokens up to the semicolon
-
-pub semicolon_is : (bundle : Bytes) (t : Token) {b : Bool} → b ≡ same_token t SemiColon → is_sign semi_colon (token_of bundle t) ≡ b
-unfolding is_sign token_of
-semicolon_is bundle t e = same t ∙ sym e
-  where
-    same : (t : Token) → is_sign semi_colon (token_of bundle t) ≡ same_token t SemiColon
-    same SemiColon = refl
-    same t = refl
 
 module _ (bundle : Bytes) (s : Source) (b : ℕ) where
   consed :
@@ -266,15 +229,8 @@ module _ (bundle : Bytes) (s : Source) (b : ℕ) where
 
 unfinished : (f : Form) → ((x : Float) → f ≡ Whole x → ⊥) → form_result f ≡ none
 unfolding form_result
-unfinished Empty n = refl
-unfinished Opening n = refl
-unfinished PropName n = refl
-unfinished PropOpening n = refl
-unfinished WidthName n = refl
-unfinished PropClosing n = refl
-unfinished (Increment x) n = refl
 unfinished (Whole x) n = absurd (n x refl)
-unfinished Failed n = refl
+unfinished f n = refl
 
 module _ (Q : Answer Value Spot Lent Refusal → Type 0) (bundle : Bytes) (s : Source) (b : ℕ) (o : Place) (τ : Lent) where
   -- what is made of the tokens
@@ -290,7 +246,7 @@ module _ (Q : Answer Value Spot Lent Refusal → Type 0) (bundle : Bytes) (s : S
       → Q (refused e τ)
       → Q (after a made)
   unfolding after
-  eval_refused {a = a} {e = e} h i q = go (subst (λ r. Forms bundle s b τ Empty r a) i h)
+  eval_refused {e = e} h i q = go (rw i at h)
     where
       go : {a : Answer (List Token') Spot Lent Refusal} → Forms bundle s b τ Empty (Err e) a → Q (after a made)
       go unformed = q
@@ -303,7 +259,7 @@ module _ (Q : Answer Value Spot Lent Refusal → Type 0) (bundle : Bytes) (s : S
       → (left bundle s d ≤ b → Q (keep (reading bundle) (number_entry x) (spot s d) τ λ τ. read (width_delta x) (spot s d) τ))
       → Q (after a made)
   unfolding after on_option form_result
-  eval_made {a = a} {f = f} {d = d} h i n q = go (subst (λ r. Forms bundle s b τ Empty r a) i h)
+  eval_made {f = f} {d = d} h i n q = go (rw i at h)
     where
       go : {a : Answer (List Token') Spot Lent Refusal} → Forms bundle s b τ Empty (Ok (f, d)) a → Q (after a made)
       go (formed ts d e l) =
@@ -319,7 +275,7 @@ module _ (Q : Answer Value Spot Lent Refusal → Type 0) (bundle : Bytes) (s : S
       → Q (refused (refusal_at 4 6 o) τ)
       → Q (after a made)
   unfolding after on_option
-  eval_unmade {a = a} {f = f} {d = d} h i n q = go (subst (λ r. Forms bundle s b τ Empty r a) i h)
+  eval_unmade {f = f} {d = d} h i n q = go (rw i at h)
     where
       go : {a : Answer (List Token') Spot Lent Refusal} → Forms bundle s b τ Empty (Ok (f, d)) a → Q (after a made)
       go (formed ts d e l) =

@@ -1,7 +1,7 @@
 -- What was read of a value or a property, and where it leads.
 use Prim.Native.Nat.{ℕ, zero, suc, ◌+◌, ◌<◌, ◌≤◌}
 use native.Mathlib.Omega.{arith}
-use mathlib.Core.Path.{◌≡◌, refl, sym, ap, subst, ◌∙◌}
+use mathlib.Core.Path.{◌≡◌, refl, sym, ap, ◌∙◌}
 use mathlib.Core.Bool.{Bool, true, false, cond}
 use mathlib.Core.List.{List}
 use mathlib.Core.Option.{none, some}
@@ -25,37 +25,31 @@ use Rattle.keep.proofs.Laws.{option_none, option_some}
 use Rattle.keep.specs.Answers.{Reads, refuses, done}
 use Rattle.properties.specs.Answers.{Values, bad_value, good_value, Leads, stops, leads, Nexts, no_next, at_end, a_next}
 use Rattle.std.specs.Prelude.{Option, Some, None, Result, Ok, Err}
-use Rattle.base.proofs.Options.{none_some, ok2_first, ok2_second}
 
 -- ---- what a call has read leads on
 
 module _ {A B : Type 0} (Q : Answer B Spot Lent Refusal → Type 0) {bundle : Bytes} {s : Source} {b : ℕ} {then : Lent} {r : Result Cursor Refusal} {a : Answer A Spot Lent Refusal} (k : A → Spot → Lent → Answer B Spot Lent Refusal) (h : Reads bundle s b then r a) where
   pub after_refused : {e : Refusal} → r ≡ Err e → ((e' : Refusal) (τ : Lent) → e ≡ e' → Q (refused e' τ)) → Q (after a k)
   unfolding after
-  after_refused {e} = go h
+  after_refused {e} i f = go (rw i at h)
     where
-      go : {r : Result Cursor Refusal} {a : Answer A Spot Lent Refusal} → Reads bundle s b then r a → r ≡ Err e → ((e' : Refusal) (τ : Lent) → e ≡ e' → Q (refused e' τ)) → Q (after a k)
-      go (refuses {e = x} {e' = y} {τ = τ} p) q f = let z : x ≡ e = cc in f y τ (sym z ∙ p)
-      go (done d l) q f = different cc
+      go : {a : Answer A Spot Lent Refusal} → Reads bundle s b then (Err e) a → Q (after a k)
+      go (refuses {e' = y} {τ = τ} p) = f y τ p
 
   pub after_done : {d : Cursor} → r ≡ Ok d → ((x : A) → left bundle s d ≤ b → Q (k x (spot s d) then)) → Q (after a k)
   unfolding after
-  after_done {d} = go h
+  after_done {d} i f = go (rw i at h)
     where
-      go : {r : Result Cursor Refusal} {a : Answer A Spot Lent Refusal} → Reads bundle s b then r a → r ≡ Ok d → ((x : A) → left bundle s d ≤ b → Q (k x (spot s d) then)) → Q (after a k)
-      go (refuses p) q f = different cc
-      go (done {x = x} e l) q f =
-          let z : d ≡ e = cc in
-          subst (λ e. Q (k x (spot s e) then)) z (f x (subst (λ e. left bundle s e ≤ b) (sym z) l))
+      go : {a : Answer A Spot Lent Refusal} → Reads bundle s b then (Ok d) a → Q (after a k)
+      go (done {x = x} d l) = f x l
 
 module _ {B : Type 0} (Q : Answer B Spot Lent Refusal → Type 0) {bundle : Bytes} {s : Source} {b : ℕ} {then : Lent} {r : Result (PropertyValue × Cursor) Refusal} {a : Answer Value Spot Lent Refusal} (k : Value → Spot → Lent → Answer B Spot Lent Refusal) (h : Values bundle s b then r a) where
   pub after_bad : {e : Refusal} → r ≡ Err e → ((e' : Refusal) (τ : Lent) → e ≡ e' → Q (refused e' τ)) → Q (after a k)
   unfolding after
-  after_bad {e} = go h
+  after_bad {e} i f = go (rw i at h)
     where
-      go : {r : Result (PropertyValue × Cursor) Refusal} {a : Answer Value Spot Lent Refusal} → Values bundle s b then r a → r ≡ Err e → ((e' : Refusal) (τ : Lent) → e ≡ e' → Q (refused e' τ)) → Q (after a k)
-      go (bad_value {e = x} {e' = y} {τ = τ} p) q f = let z : x ≡ e = cc in f y τ (sym z ∙ p)
-      go (good_value v d l p) q f = different cc
+      go : {a : Answer Value Spot Lent Refusal} → Values bundle s b then (Err e) a → Q (after a k)
+      go (bad_value {e' = y} {τ = τ} p) = f y τ p
 
   pub after_good :
       {v : PropertyValue} {d : Cursor}
@@ -63,18 +57,10 @@ module _ {B : Type 0} (Q : Answer B Spot Lent Refusal → Type 0) {bundle : Byte
       → ((x : Value) → left bundle s d ≤ b → value_shown x (fresh_numbers then.tally) ≡ v → Q (k x (spot s d) then))
       → Q (after a k)
   unfolding after
-  after_good {v} {d} = go h
+  after_good {v} {d} i f = go (rw i at h)
     where
-      go :
-          {r : Result (PropertyValue × Cursor) Refusal} {a : Answer Value Spot Lent Refusal}
-          → Values bundle s b then r a
-          → r ≡ Ok (v, d)
-          → ((x : Value) → left bundle s d ≤ b → value_shown x (fresh_numbers then.tally) ≡ v → Q (k x (spot s d) then))
-          → Q (after a k)
-      go (bad_value p) q f = different cc
-      go (good_value x e l w) q f =
-          let z : d ≡ e = sym (ok2_second q) in
-          subst (λ e. Q (k x (spot s e) then)) z (f x (subst (λ e. left bundle s e ≤ b) (sym z) l) (w ∙ ok2_first q))
+      go : {a : Answer Value Spot Lent Refusal} → Values bundle s b then (Ok (v, d)) a → Q (after a k)
+      go (good_value x d l w) = f x l w
 
 pub widen_value :
     {bundle : Bytes} {s : Source} {b b' : ℕ} {then : Lent} {r : Result (PropertyValue × Cursor) Refusal} {a : Answer Value Spot Lent Refusal}
@@ -94,20 +80,16 @@ widen_leads h (leads x d l) = leads x d (omega arith)
 
 module _ {A X : Type 0} (Q : Answer A Spot Lent Refusal → Type 0) {bundle : Bytes} {s : Source} {b : ℕ} {then : Lent} {K : X → Spot → Lent → Answer A Spot Lent Refusal} {r : Result Cursor Refusal} {a : Answer A Spot Lent Refusal} (h : Leads bundle s b then K r a) where
   pub lead_stop : {e : Refusal} → r ≡ Err e → ((e' : Refusal) (τ : Lent) → e ≡ e' → Q (refused e' τ)) → Q a
-  lead_stop {e} = go h
+  lead_stop {e} i f = go (rw i at h)
     where
-      go : {r : Result Cursor Refusal} {a : Answer A Spot Lent Refusal} → Leads bundle s b then K r a → r ≡ Err e → ((e' : Refusal) (τ : Lent) → e ≡ e' → Q (refused e' τ)) → Q a
-      go (stops {e = x} {e' = y} {τ = τ} p) q f = let z : x ≡ e = cc in f y τ (sym z ∙ p)
-      go (leads x d l) q f = different cc
+      go : {a : Answer A Spot Lent Refusal} → Leads bundle s b then K (Err e) a → Q a
+      go (stops {e' = y} {τ = τ} p) = f y τ p
 
   pub lead_on : {d : Cursor} → r ≡ Ok d → ((x : X) → left bundle s d ≤ b → Q (K x (spot s d) then)) → Q a
-  lead_on {d} = go h
+  lead_on {d} i f = go (rw i at h)
     where
-      go : {r : Result Cursor Refusal} {a : Answer A Spot Lent Refusal} → Leads bundle s b then K r a → r ≡ Ok d → ((x : X) → left bundle s d ≤ b → Q (K x (spot s d) then)) → Q a
-      go (stops p) q f = different cc
-      go (leads x e l) q f =
-          let z : d ≡ e = cc in
-          subst (λ e. Q (K x (spot s e) then)) z (f x (subst (λ e. left bundle s e ≤ b) (sym z) l))
+      go : {a : Answer A Spot Lent Refusal} → Leads bundle s b then K (Ok d) a → Q a
+      go (leads x d l) = f x l
 
 -- ---- storing a property
 
@@ -179,35 +161,22 @@ module _ (bundle : Bytes) (t : List ℕ) (name : Range) where
 
 module _ {A X : Type 0} {bundle : Bytes} {s : Source} {bound : ℕ} {K : Spot → Answer A Spot Lent Refusal} {N : X → Spot → Answer A Spot Lent Refusal} {r : Result (Option X × Cursor) Refusal} {a : Answer A Spot Lent Refusal} (Q : Answer A Spot Lent Refusal → Type 0) (h : Nexts bundle s bound K N r a) where
   pub next_none : {e : Refusal} → r ≡ Err e → ((e' : Refusal) (τ : Lent) → e ≡ e' → Q (refused e' τ)) → Q a
-  next_none {e} = go h
+  next_none {e} i k = go (rw i at h)
     where
-      go : {r : Result (Option X × Cursor) Refusal} {a : Answer A Spot Lent Refusal} → Nexts bundle s bound K N r a → r ≡ Err e → ((e' : Refusal) (τ : Lent) → e ≡ e' → Q (refused e' τ)) → Q a
-      go (no_next {e = x} {e' = y} {τ = τ} p) q k = let z : x ≡ e = cc in k y τ (sym z ∙ p)
-      go (at_end d p) q k = different cc
-      go (a_next x d p) q k = different cc
+      go : {a : Answer A Spot Lent Refusal} → Nexts bundle s bound K N (Err e) a → Q a
+      go (no_next {e' = y} {τ = τ} p) = k y τ p
 
   pub next_end : {o : Option X} {d : Cursor} → r ≡ Ok (o, d) → o ≡ None → (left bundle s d < bound → Q (K (spot s d))) → Q a
-  next_end {d = d} m n = go h (m ∙ ap (λ (o : Option X). Ok (o, d)) n)
+  next_end {d = d} m n k = go (rw (m, n) at h)
     where
-      go : {r : Result (Option X × Cursor) Refusal} {a : Answer A Spot Lent Refusal} → Nexts bundle s bound K N r a → r ≡ Ok (None, d) → (left bundle s d < bound → Q (K (spot s d))) → Q a
-      go (no_next p) q k = different cc
-      go (at_end f p) q k =
-          let z : f ≡ d = ok2_second q in
-          subst (λ f. Q (K (spot s f))) (sym z) (k (subst (λ f. left bundle s f < bound) z p))
-      go (a_next x f p) q k = none_some (sym (ok2_first q))
+      go : {a : Answer A Spot Lent Refusal} → Nexts bundle s bound K N (Ok (None, d)) a → Q a
+      go (at_end d p) = k p
 
   pub next_one : {o : Option X} {x : X} {d : Cursor} → r ≡ Ok (o, d) → o ≡ Some x → (left bundle s d < bound → Q (N x (spot s d))) → Q a
-  next_one {x = x} {d} m n = go h (m ∙ ap (λ (o : Option X). Ok (o, d)) n)
+  next_one {x = x} {d} m n k = go (rw (m, n) at h)
     where
-      go : {r : Result (Option X × Cursor) Refusal} {a : Answer A Spot Lent Refusal} → Nexts bundle s bound K N r a → r ≡ Ok (Some x, d) → (left bundle s d < bound → Q (N x (spot s d))) → Q a
-      go (no_next p) q k = different cc
-      go (at_end f p) q k = none_some (ok2_first q)
-      go (a_next y f p) q k =
-          let z : f ≡ d = ok2_second q in
-          let v : Some y ≡ Some x = ok2_first q in
-          let w : y ≡ x = cc in
-          subst (λ y. Q (N y (spot s f))) (sym w)
-          (subst (λ f. Q (N x (spot s f))) (sym z) (k (subst (λ f. left bundle s f < bound) z p)))
+      go : {a : Answer A Spot Lent Refusal} → Nexts bundle s bound K N (Ok (Some x, d)) a → Q a
+      go (a_next x d p) = k p
 
 -- what is read behind a number, with the number before it
 pub after_reads :

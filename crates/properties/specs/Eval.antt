@@ -49,8 +49,7 @@ form_next PropOpening t = width_form t
 form_next WidthName t = sign_form right_paren PropClosing t
 form_next PropClosing t = last_form t
 form_next (Increment x) t = sign_form right_paren (Whole x) t
-form_next (Whole x) t = Failed
-form_next Failed t = Failed
+form_next f t = Failed
 
 unfoldable pub form_all : Form → List Token' → Form
 form_all f [] = f
@@ -59,14 +58,7 @@ form_all f (t ∷ ts) = form_all (form_next f t) ts
 -- the number of a whole form
 unfoldable pub form_result : Form → Option Float
 form_result (Whole x) = some x
-form_result Empty = none
-form_result Opening = none
-form_result PropName = none
-form_result PropOpening = none
-form_result WidthName = none
-form_result PropClosing = none
-form_result (Increment x) = none
-form_result Failed = none
+form_result f = none
 
 -- ---- the tokens up to the semicolon
 

@@ -28,7 +28,7 @@ impl Words {
 
     // As far as there is room.
     fn push(&mut self, w: u64) {
-        if self.count < 127 {
+        if self.count < self.words.len() {
             self.words[self.count] = w;
             self.count += 1;
         }
@@ -71,7 +71,7 @@ impl Words {
                 self.push_number(1, base::float_at(tables.numbers, r.from));
             }
             PropertyValue::WidthDelta(d) => self.push_number(2, d),
-            _ => self.count = 127,
+            _ => self.count = self.words.len(),
         }
     }
 }
@@ -118,7 +118,7 @@ fn main(rt: HostRuntime) -> io::Result<()> {
 
 // 1 if both hold something, whole, and are equal.
 fn alike(x: &Words, y: &Words) -> u64 {
-    let whole = 0 < x.count && x.count < 127;
+    let whole = 0 < x.count && x.count < x.words.len();
     u64::from(whole && x == y)
 }
 

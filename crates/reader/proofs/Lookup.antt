@@ -1,19 +1,17 @@
 -- Tag lookup: one step of the scan, a key of two parts, and that it finds what the map of tags has.
-use Prim.Native.Nat.{ℕ, suc, ◌+◌, ◌<◌, ◌≤◌}
+use Prim.Native.Nat.{ℕ}
 use native.Mathlib.Omega.{arith}
-use native.Mathlib.Numerals.{add-one}
 use mathlib.Core.Path.{◌≡◌, refl, sym, ◌∙◌, ap}
-use mathlib.Core.Bool.{Bool, true, false, ◌&&◌, and-false}
+use mathlib.Core.Bool.{false}
 use mathlib.Core.List.{List, [], ◌∷◌, ◌++◌, map}
 use mathlib.Core.Option.{none, some}
-use lib.Dec.{eqb}
-use lib.ListN.{length, get_or, take, drop, length-append}
-use lib.Seq.{drop-cons}
+use lib.Dec.{eqb, eqb_refl}
+use lib.ListN.{get_or, drop}
 use borrow.Author.Tests.{eq-eqb, ne_eqb}
-use Rattle.base.specs.Bytes.{Bytes, same, within, between}
-use Rattle.base.specs.Choice.{pick, by-test}
+use Rattle.base.specs.Bytes.{Bytes, same, within}
+use Rattle.base.specs.Choice.{pick, by-test, holds}
 use Rattle.base.specs.Map.{lookup}
-use Rattle.base.proofs.Compare.{same_lengths, rest_all}
+use Rattle.base.proofs.Compare.{same_false}
 use Rattle.group.specs.Pair.{Ranges, pairs_at, entries_at, named}
 use Rattle.entity.specs.Layout.{value_of, tags_of, tag_ranges}
 use Rattle.entity.specs.declared.EntityRange.{EntityRange}
@@ -35,34 +33,31 @@ pub value_read : (s key : Bytes) (ps : List Ranges) (r : Option Ranges) → opti
 value_read s key ps r e = ap (option_map (λ p. p.1)) (sym (option_map_id r) ∙ e) ∙ value_found s key ps
 
 -- a key of two parts
-same_parts : (a b y : Bytes) → same (a ++ b) y ≡ (same a (take (length a) y) && same b (drop (length a) y))
+same_front : (a b y : Bytes) → same (a ++ b) (a ++ y) ≡ same b y
 unfolding same
-same_parts [] b y = refl
-same_parts (x ∷ a) b [] = refl
-same_parts (x ∷ a) b (z ∷ y) = by-test (eqb x z) (λ h. rw h (same_parts a b y)) (λ h. rw h)
+same_front [] b y = refl
+same_front (x ∷ a) b y = rw (holds (eqb x x) (eqb_refl x)) (same_front a b y)
 
 module _ (a b y : Bytes) where
-  pub joined_short : length y ≤ length a → false ≡ same (a ++ (58 ∷ b)) y
-  joined_short h = sym (same_lengths (a ++ (58 ∷ b)) y (λ e. omega (arith, length-append a (58 ∷ b))))
+  pub joined_none : ((x : Bytes) → y ≡ a ++ x → ⊥) → false ≡ same (a ++ (58 ∷ b)) y
+  joined_none h = sym (same_false (a ++ (58 ∷ b)) y (λ e. h (58 ∷ b) (sym e)))
 
-  module _ (l : length a < length y) where
-    joined_colon :
-        same (a ++ (58 ∷ b)) y ≡ (same a (take (length a) y) && (eqb 58 (get_or y (length a) 0) && same b (drop (suc (length a)) y)))
+  module _ (x : Bytes) (e : y ≡ a ++ x) where
+    pub joined_else : (get_or x 0 0 ≡ 58 → ⊥) → false ≡ same (a ++ (58 ∷ b)) y
     unfolding same
-    joined_colon = same_parts a (58 ∷ b) y ∙ (rw (drop-cons y (length a) 0 l))
+    joined_else h = rw (e, same_front a (58 ∷ b) x) (go x h)
+      where
+        go : (x : Bytes) → (get_or x 0 0 ≡ 58 → ⊥) → false ≡ same (58 ∷ b) x
+        go [] h = refl
+        go (z ∷ x) h = rw (ne_eqb 58 z (λ e. h (sym e)))
 
-    pub joined_else : (get_or y (length a) 0 ≡ 58 → ⊥) → false ≡ same (a ++ (58 ∷ b)) y
-    joined_else h = sym (joined_colon ∙ (rw (ne_eqb 58 (get_or y (length a) 0) (λ e. h (sym e))) (and-false (same a (take (length a) y)))))
-
-    module _ (c : get_or y (length a) 0 ≡ 58) (r : Bool) (q : r ≡ same a (take (length a) y)) where
-      pub joined_not : r ≡ false → false ≡ same (a ++ (58 ∷ b)) y
-      joined_not f = sym (joined_colon ∙ (rw (sym q ∙ f)))
-
-      pub joined_rest : (t : Bool) → r ≡ true → t ≡ same b (between (length a + 1) (length y) y) → t ≡ same (a ++ (58 ∷ b)) y
-      joined_rest t f i =
-          i
-          ∙ ap (same b) (rest_all y (length a + 1) ∙ ap (λ (k : ℕ). drop k y) (add-one (length a)))
-          ∙ sym (joined_colon ∙ (rw (sym q ∙ f, eq-eqb 58 (get_or y (length a) 0) (sym c))))
+    pub joined_rest : get_or x 0 0 ≡ 58 → same b (drop 1 x) ≡ same (a ++ (58 ∷ b)) y
+    unfolding same
+    joined_rest h = rw (e, same_front a (58 ∷ b) x) (go x h)
+      where
+        go : (x : Bytes) → get_or x 0 0 ≡ 58 → same b (drop 1 x) ≡ same (58 ∷ b) x
+        go [] h = absurd (omega arith)
+        go (z ∷ x) h = rw (eq-eqb 58 z (sym h))
 
 -- the scan finds what the map of tags has
 module _ (s key : Bytes) where

@@ -31,9 +31,8 @@ pub fn get_by_joined_key(entity: Entity, first: &[u8], second: &[u8]) -> Option<
 fn is_joined(first: &[u8], second: &[u8], key: &[u8]) -> bool
     ensures { result ≡ same (first.now ++ (58 ∷ second.now)) key.now }
 {
-    let n = first.len();
-    n < key.len()
-        && key[n] == 58
-        && same_bytes(first, &key[..n])
-        && same_bytes(second, &key[n + 1..])
+    match key.strip_prefix(first) {
+        Some([b':', rest @ ..]) => same_bytes(second, rest),
+        _ => false,
+    }
 }

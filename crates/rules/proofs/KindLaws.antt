@@ -1,19 +1,18 @@
 -- Object types, and colors blocks token by token.
 use Prim.Native.Nat.{ℕ, zero, suc, ◌≤◌}
 use native.Mathlib.Omega.{arith}
-use mathlib.Core.Path.{◌≡◌, refl, sym, ◌∙◌}
-use mathlib.Core.Bool.{Bool, true, false}
+use mathlib.Core.Path.{◌≡◌, refl}
+use mathlib.Core.Bool.{true, false}
 use Rattle.base.specs.Bytes.{Bytes}
 use Rattle.base.specs.declared.refusal.Refusal.{Refusal}
 use Rattle.cursor.specs.declared.Cursor.{Cursor}
 use Rattle.token_kind.specs.declared.Token.{Token}
-use Rattle.token_kind.specs.declared.Token.TheVariants.{RightBrace}
 use Rattle.grammar.specs.Token.{right_brace}
 use Rattle.grammar.specs.View.{is_sign}
 use Rattle.grammar.specs.Reader.{skip_colors}
-use Rattle.sheet.specs.Sheet.{ObjectType, all, canvas, meta, node, way, area}
+use Rattle.sheet.specs.Sheet.{ObjectType, all}
 use Rattle.keep.specs.Lent.{type_number}
-use Rattle.input.specs.Text.{token_of, same_token, left, mandatory_of}
+use Rattle.input.specs.Text.{token_of, left, mandatory_of}
 use Rattle.input.specs.declared.Place.{Place}
 use Rattle.input.specs.declared.Source.{Source}
 use Rattle.table.specs.Kind.{object_number}
@@ -23,21 +22,9 @@ use Rattle.std.specs.Prelude.{Result, Ok, Err}
 
 pub same_number : (y : ObjectType) → type_number y ≡ object_number (kind_of y)
 same_number all = refl
-same_number canvas = refl
-same_number meta = refl
-same_number node = refl
-same_number way = refl
-same_number area = refl
+same_number y = refl
 
 -- ---- colors blocks
-
-pub brace_is : (bundle : Bytes) (t : Token) {b : Bool} → b ≡ same_token t RightBrace → is_sign right_brace (token_of bundle t) ≡ b
-unfolding is_sign token_of
-brace_is bundle t e = same t ∙ sym e
-  where
-    same : (t : Token) → is_sign right_brace (token_of bundle t) ≡ same_token t RightBrace
-    same RightBrace = refl
-    same t = refl
 
 module _ (bundle : Bytes) (s : Source) (b : ℕ) where
   pub skip_none : (c : Cursor) {e : Refusal} → mandatory_of bundle s c ≡ Err e → SkipsFrom bundle s b c (Err e)

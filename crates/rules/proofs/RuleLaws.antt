@@ -3,14 +3,14 @@ use Prim.Native.Nat.{ℕ, suc, ◌<◌, ◌≤◌}
 use native.Mathlib.Omega.{arith}
 use mathlib.Core.Path.{◌≡◌, refl, sym, ap, subst, ◌∙◌}
 use mathlib.Core.Bool.{Bool, false, cond}
-use mathlib.Core.List.{[], ◌∷◌}
+use mathlib.Core.List.{List, [], ◌∷◌}
 use mathlib.Core.Option.{Option as Option', none, some}
 use Rattle.base.specs.Bytes.{Bytes}
 use Rattle.base.specs.Choice.{different}
 use Rattle.base.specs.declared.Range.{Range}
 use Rattle.base.specs.declared.refusal.Refusal.{Refusal}
 use Rattle.cursor.specs.declared.Cursor.{Cursor}
-use Rattle.sheet.specs.Sheet.{ObjectType}
+use Rattle.sheet.specs.Sheet.{ObjectType, all}
 use Rattle.token_kind.specs.declared.Token.{Token}
 use Rattle.grammar.specs.Token.{Token as Token', left_brace}
 use Rattle.grammar.specs.Reading.{Selector, Rule, Colors, bare, add_selector, with_zoom, with_test, with_layer, Test, id_to_object_type}
@@ -21,8 +21,8 @@ use denote.Enum.Declared.{tag_of}
 use Rattle.token_kind.specs.contracts.Token.{the_type}
 use Rattle.input.proofs.TokenLaws.{others, not_sign, not_identifier}
 use Rattle.keep.proofs.Laws.{option_none, option_some, no_way}
-use Rattle.keep.specs.Answers.{Reads, refuses, done}
-use Rattle.keep.specs.Lent.{Lent, type_number, level_in, layer_in, selector_kept, rule_kept, put_entry}
+use Rattle.keep.specs.Answers.{Reads, done}
+use Rattle.keep.specs.Lent.{Lent, type_number, level_in, layer_in, colors_of, selector_kept, rule_kept, put_entry}
 use Rattle.keep.proofs.KeepLaws.{is_full, is_put}
 use Rattle.keep.specs.Source.{reading}
 use Rattle.input.specs.Source.{Spot, spot}
@@ -33,13 +33,13 @@ use Rattle.table.specs.declared.kind.ObjectKind.{ObjectKind}
 use Rattle.rules.proofs.KindLaws.{same_number}
 use Rattle.table.specs.Kind.{object_number}
 use Rattle.rules.specs.Kind.{object_kind, kind_of, Skips, unskipped, skipped}
-use Rattle.rules.specs.Rules.{Ways, Parts, bad_part, is_closing, is_zoom, is_bracket, is_class, is_layer, Shown, Selects, no_selector, one_selector, Choice, Chooses, unchosen, last_chosen, next_chosen, Starts, bad_start, body, colors_block, object, start_of}
+use Rattle.properties.proofs.Turns.{Goes, goes_on}
+use Rattle.rules.specs.Rules.{Ways, Parts, bad_part, is_closing, is_zoom, is_bracket, is_class, is_layer, Shown, Selects, no_selector, one_selector, Choice, Chooses, unchosen, last_chosen, next_chosen, Starts, bad_start, body, colors_block, object, start_of, PartRead, ChoiceRead, StartRead, BodyRead}
 use Rattle.rules.specs.declared.Part.{Part}
 use Rattle.rules.specs.declared.Part.TheVariants.{Closing, Zoom, Bracket, Class, Layer}
 use Rattle.rules.specs.declared.Start.{Start}
 use Rattle.rules.specs.declared.Start.TheVariants.{Body, ColorsBlock, Object}
 use Rattle.std.specs.Prelude.{Option, Some, None, Result, Ok, Err}
-use Rattle.base.proofs.Options.{ok2_first, ok2_second, some2_first, some2_second}
 
 -- ---- parts
 
@@ -55,101 +55,51 @@ widen_part h (is_bracket d l) = is_bracket d (omega arith)
 widen_part h (is_class d l) = is_class d (omega arith)
 widen_part h (is_layer a d l) = is_layer a d (omega arith)
 
-module _ (Q : Answer (Selector × Bool) Spot Lent Refusal → Type 0) {bundle : Bytes} {s : Source} {b : ℕ} {w : Ways} where
-  pub part_bad :
+-- the place behind a part, and what it leads to
+abbrev pub behind : Part → Cursor
+behind (Closing x d) = d
+behind (Zoom x y d) = d
+behind (Bracket d) = d
+behind (Class d) = d
+behind (Layer x d) = d
+
+abbrev pub way : Bytes → Source → Ways → Part → Answer (Selector × Bool) Spot Lent Refusal
+way bundle s w (Closing x d) = w.end x (spot s d)
+way bundle s w (Zoom x y d) = w.zoom (level_of x) (level_of y) (spot s d)
+way bundle s w (Bracket d) = w.bracket (spot s d)
+way bundle s w (Class d) = w.class (spot s d)
+way bundle s w (Layer x d) = w.layer (name_in bundle x) (spot s d)
+
+module _ (Q : Answer (Selector × Bool) Spot Lent Refusal → Type 0) (bundle : Bytes) (s : Source) (b : ℕ) (w : Ways) where
+  part_bad :
       {r : Result Part Refusal} {a : Answer (Selector × Bool) Spot Lent Refusal} {e : Refusal}
       → Parts bundle s b w r a
       → r ≡ Err e
       → ((e' : Refusal) (τ : Lent) → e ≡ e' → Q (refused e' τ))
       → Q a
-  part_bad {e = e} (bad_part {e = x} {e' = y} {τ = τ} p) q k = let z : x ≡ e = cc in k y τ (sym z ∙ p)
-  part_bad (is_closing x d l) q k = different cc
-  part_bad (is_zoom x y d l) q k = different cc
-  part_bad (is_bracket d l) q k = different cc
-  part_bad (is_class d l) q k = different cc
-  part_bad (is_layer a d l) q k = different cc
+  part_bad {e = e} h i k = go (rw i at h)
+    where
+      go : {a : Answer (Selector × Bool) Spot Lent Refusal} → Parts bundle s b w (Err e) a → Q a
+      go (bad_part {e' = y} {τ = τ} p) = k y τ p
 
-  pub part_closing :
-      {r : Result Part Refusal} {a : Answer (Selector × Bool) Spot Lent Refusal} {x : Bool} {d : Cursor}
-      → Parts bundle s b w r a
-      → r ≡ Ok (Closing x d)
-      → (left bundle s d < b → Q (w.end x (spot s d)))
-      → Q a
-  part_closing (bad_part p) q k = different cc
-  part_closing {x = x} {d} (is_closing y f l) q k =
-      let z : d ≡ f = cc in
-      let u : x ≡ y = cc in
-      subst (λ y. Q (w.end y (spot s f))) u (subst (λ f. Q (w.end x (spot s f))) z (k (subst (λ f. left bundle s f < b) (sym z) l)))
-  part_closing (is_zoom x y d l) q k = different cc
-  part_closing (is_bracket d l) q k = different cc
-  part_closing (is_class d l) q k = different cc
-  part_closing (is_layer a d l) q k = different cc
+  -- less is left behind a part
+  abbrev Leads : Part → Type 0
+  Leads p = left bundle s (behind p) < b → Q (way bundle s w p)
 
-  pub part_zoom :
-      {r : Result Part Refusal} {a : Answer (Selector × Bool) Spot Lent Refusal} {x y : Option ℕ} {d : Cursor}
+  part_good :
+      {r : Result Part Refusal} {a : Answer (Selector × Bool) Spot Lent Refusal} {p : Part}
       → Parts bundle s b w r a
-      → r ≡ Ok (Zoom x y d)
-      → (left bundle s d < b → Q (w.zoom (level_of x) (level_of y) (spot s d)))
+      → r ≡ Ok p
+      → Leads p
       → Q a
-  part_zoom (bad_part p) q k = different cc
-  part_zoom (is_closing y f l) q k = different cc
-  part_zoom {x = x} {y} {d} (is_zoom g h f l) q k =
-      let z : d ≡ f = cc in
-      let u : x ≡ g = cc in
-      let v : y ≡ h = cc in
-      subst (λ h. Q (w.zoom (level_of g) (level_of h) (spot s f))) v
-      (subst (λ g. Q (w.zoom (level_of g) (level_of y) (spot s f))) u
-      (subst (λ f. Q (w.zoom (level_of x) (level_of y) (spot s f))) z (k (subst (λ f. left bundle s f < b) (sym z) l))))
-  part_zoom (is_bracket d l) q k = different cc
-  part_zoom (is_class d l) q k = different cc
-  part_zoom (is_layer a d l) q k = different cc
-
-  pub part_bracket :
-      {r : Result Part Refusal} {a : Answer (Selector × Bool) Spot Lent Refusal} {d : Cursor}
-      → Parts bundle s b w r a
-      → r ≡ Ok (Bracket d)
-      → (left bundle s d < b → Q (w.bracket (spot s d)))
-      → Q a
-  part_bracket (bad_part p) q k = different cc
-  part_bracket (is_closing y f l) q k = different cc
-  part_bracket (is_zoom x y d l) q k = different cc
-  part_bracket {d = d} (is_bracket f l) q k =
-      let z : d ≡ f = cc in
-      subst (λ f. Q (w.bracket (spot s f))) z (k (subst (λ f. left bundle s f < b) (sym z) l))
-  part_bracket (is_class d l) q k = different cc
-  part_bracket (is_layer a d l) q k = different cc
-
-  pub part_class :
-      {r : Result Part Refusal} {a : Answer (Selector × Bool) Spot Lent Refusal} {d : Cursor}
-      → Parts bundle s b w r a
-      → r ≡ Ok (Class d)
-      → (left bundle s d < b → Q (w.class (spot s d)))
-      → Q a
-  part_class (bad_part p) q k = different cc
-  part_class (is_closing y f l) q k = different cc
-  part_class (is_zoom x y d l) q k = different cc
-  part_class (is_bracket d l) q k = different cc
-  part_class {d = d} (is_class f l) q k =
-      let z : d ≡ f = cc in
-      subst (λ f. Q (w.class (spot s f))) z (k (subst (λ f. left bundle s f < b) (sym z) l))
-  part_class (is_layer a d l) q k = different cc
-
-  pub part_layer :
-      {r : Result Part Refusal} {a : Answer (Selector × Bool) Spot Lent Refusal} {x : Range} {d : Cursor}
-      → Parts bundle s b w r a
-      → r ≡ Ok (Layer x d)
-      → (left bundle s d < b → Q (w.layer (name_in bundle x) (spot s d)))
-      → Q a
-  part_layer (bad_part p) q k = different cc
-  part_layer (is_closing y f l) q k = different cc
-  part_layer (is_zoom x y d l) q k = different cc
-  part_layer (is_bracket d l) q k = different cc
-  part_layer (is_class d l) q k = different cc
-  part_layer {x = x} {d} (is_layer y f l) q k =
-      let z : d ≡ f = cc in
-      let u : x ≡ y = cc in
-      subst (λ y. Q (w.layer (name_in bundle y) (spot s f))) u
-      (subst (λ f. Q (w.layer (name_in bundle x) (spot s f))) z (k (subst (λ f. left bundle s f < b) (sym z) l)))
+  part_good h i = go (rw i at h)
+    where
+      go : {p : Part} {a : Answer (Selector × Bool) Spot Lent Refusal} → Parts bundle s b w (Ok p) a → Leads p → Q a
+      go (is_closing x d l) k = k l
+      go (is_zoom x y d l) k = k l
+      go (is_bracket d l) k = k l
+      go (is_class d l) k = k l
+      go (is_layer x d l) k = k l
 
 -- ---- the words of a selector, as its parts come
 
@@ -188,8 +138,10 @@ module _ {B : Type 0} (Q : Answer B Spot Lent Refusal → Type 0) {bundle : Byte
       → ((e' : Refusal) (τ : Lent) → e ≡ e' → Q (refused e' τ))
       → Q (after a k)
   unfolding after
-  after_unselected {e = e} (no_selector {e = x} {e' = y} {τ = τ} p) q f = let z : x ≡ e = cc in f y τ (sym z ∙ p)
-  after_unselected (one_selector x d l) q f = different cc
+  after_unselected {e = e} h i f = go (rw i at h)
+    where
+      go : {a : Answer (Selector × Bool) Spot Lent Refusal} → Selects bundle s b then (Err e) a → Q (after a k)
+      go (no_selector {e' = y} {τ = τ} p) = f y τ p
 
   pub after_selected :
       {r : Result (Bool × Cursor) Refusal} {a : Answer (Selector × Bool) Spot Lent Refusal} {x : Bool} {d : Cursor}
@@ -198,12 +150,10 @@ module _ {B : Type 0} (Q : Answer B Spot Lent Refusal → Type 0) {bundle : Byte
       → ((σ : Selector) → left bundle s d ≤ b → Q (k (σ, x) (spot s d) then))
       → Q (after a k)
   unfolding after
-  after_selected (no_selector p) q f = different cc
-  after_selected {x = x} {d} (one_selector {σ = σ} y e l) q f =
-      let z : d ≡ e = sym (ok2_second q) in
-      let u : x ≡ y = sym (ok2_first q) in
-      subst (λ y. Q (k (σ, y) (spot s e) then)) u
-      (subst (λ e. Q (k (σ, x) (spot s e) then)) z (f σ (subst (λ e. left bundle s e ≤ b) (sym z) l)))
+  after_selected {x = x} {d} h i f = go (rw i at h)
+    where
+      go : {a : Answer (Selector × Bool) Spot Lent Refusal} → Selects bundle s b then (Ok (x, d)) a → Q (after a k)
+      go (one_selector {σ = σ} x d l) = f σ l
 
 pub widen_choice :
     {bundle : Bytes} {s : Source} {b b' : ℕ} {then : Lent} {L : Selector → Spot → Lent → Answer Rule Spot Lent Refusal} {N : Selector → Token' → Place → Spot → Lent → Answer Rule Spot Lent Refusal} {r : Result Choice Refusal} {a : Answer Rule Spot Lent Refusal}
@@ -221,9 +171,10 @@ module _ (Q : Answer Rule Spot Lent Refusal → Type 0) {bundle : Bytes} {s : So
       → r ≡ Err e
       → ((e' : Refusal) (τ : Lent) → e ≡ e' → Q (refused e' τ))
       → Q a
-  choice_none {e = e} (unchosen {e = x} {e' = y} {τ = τ} p) q k = let z : x ≡ e = cc in k y τ (sym z ∙ p)
-  choice_none (last_chosen σ d l) q k = different cc
-  choice_none (next_chosen σ t o d l) q k = different cc
+  choice_none {e = e} h i k = go (rw i at h)
+    where
+      go : {a : Answer Rule Spot Lent Refusal} → Chooses bundle s b then L N (Err e) a → Q a
+      go (unchosen {e' = y} {τ = τ} p) = k y τ p
 
   pub choice_last :
       {r : Result Choice Refusal} {a : Answer Rule Spot Lent Refusal} {d : Cursor}
@@ -231,13 +182,10 @@ module _ (Q : Answer Rule Spot Lent Refusal → Type 0) {bundle : Bytes} {s : So
       → r ≡ Ok (None, d)
       → ((σ : Selector) → left bundle s d ≤ b → Q (L σ (spot s d) then))
       → Q a
-  choice_last (unchosen p) q k = different cc
-  choice_last {d = d} (last_chosen σ f l) q k =
-      let z : d ≡ f = sym (ok2_second q) in
-      subst (λ f. Q (L σ (spot s f) then)) z (k σ (subst (λ f. left bundle s f ≤ b) (sym z) l))
-  choice_last (next_chosen σ u p f l) q k =
-      let none = ok2_first q in
-      different cc
+  choice_last {d = d} h i k = go (rw i at h)
+    where
+      go : {a : Answer Rule Spot Lent Refusal} → Chooses bundle s b then L N (Ok (None, d)) a → Q a
+      go (last_chosen σ d l) = k σ l
 
   pub choice_next :
       {r : Result Choice Refusal} {a : Answer Rule Spot Lent Refusal} {t : Token} {o : Place} {d : Cursor}
@@ -245,17 +193,10 @@ module _ (Q : Answer Rule Spot Lent Refusal → Type 0) {bundle : Bytes} {s : So
       → r ≡ Ok (Some (t, o), d)
       → ((σ : Selector) → left bundle s d < b → Q (N σ (token_of bundle t) o (spot s d) then))
       → Q a
-  choice_next (unchosen p) q k = different cc
-  choice_next (last_chosen σ f l) q k =
-      let none = ok2_first q in
-      different cc
-  choice_next {t = t} {o} {d} (next_chosen σ u p f l) q k =
-      let z : d ≡ f = sym (ok2_second q) in
-      let x : t ≡ u = sym (some2_first (ok2_first q)) in
-      let y : o ≡ p = sym (some2_second (ok2_first q)) in
-      subst (λ u. Q (N σ (token_of bundle u) p (spot s f) then)) x
-      (subst (λ p. Q (N σ (token_of bundle t) p (spot s f) then)) y
-      (subst (λ f. Q (N σ (token_of bundle t) o (spot s f) then)) z (k σ (subst (λ f. left bundle s f < b) (sym z) l))))
+  choice_next {t = t} {o} {d} h i k = go (rw i at h)
+    where
+      go : {a : Answer Rule Spot Lent Refusal} → Chooses bundle s b then L N (Ok (Some (t, o), d)) a → Q a
+      go (next_chosen σ t o d l) = k σ l
 
 -- ---- the start of a selector
 
@@ -266,22 +207,22 @@ module _ (Q : Answer Rule Spot Lent Refusal → Type 0) {B C : Answer Rule Spot 
       → r ≡ Err e
       → ((e' : Refusal) (τ : Lent) → e ≡ e' → Q (refused e' τ))
       → Q a
-  start_bad {e = e} (bad_start {e = x} {e' = y} {τ = τ} p) q k = let z : x ≡ e = cc in k y τ (sym z ∙ p)
-  start_bad body q k = different cc
-  start_bad colors_block q k = different cc
-  start_bad (object y p) q k = different cc
+  start_bad {e = e} h i k = go (rw i at h)
+    where
+      go : {a : Answer Rule Spot Lent Refusal} → Starts B C O K (Err e) a → Q a
+      go (bad_start {e' = y} {τ = τ} p) = k y τ p
 
   pub start_body : {r : Result Start Refusal} {a : Answer Rule Spot Lent Refusal} → Starts B C O K r a → r ≡ Ok Body → Q B → Q a
-  start_body (bad_start p) q k = different cc
-  start_body body q k = k
-  start_body colors_block q k = different cc
-  start_body (object y p) q k = different cc
+  start_body h i q = go (rw i at h)
+    where
+      go : {a : Answer Rule Spot Lent Refusal} → Starts B C O K (Ok Body) a → Q a
+      go body = q
 
   pub start_colors : {r : Result Start Refusal} {a : Answer Rule Spot Lent Refusal} → Starts B C O K r a → r ≡ Ok ColorsBlock → Q C → Q a
-  start_colors (bad_start p) q k = different cc
-  start_colors body q k = different cc
-  start_colors colors_block q k = k
-  start_colors (object y p) q k = different cc
+  start_colors h i q = go (rw i at h)
+    where
+      go : {a : Answer Rule Spot Lent Refusal} → Starts B C O K (Ok ColorsBlock) a → Q a
+      go colors_block = q
 
   pub start_object :
       {r : Result Start Refusal} {a : Answer Rule Spot Lent Refusal} {kind : ObjectKind}
@@ -289,10 +230,10 @@ module _ (Q : Answer Rule Spot Lent Refusal → Type 0) {B C : Answer Rule Spot 
       → r ≡ Ok (Object kind)
       → ((y : ObjectType) → type_number y ≡ object_number kind → Q (after (O y) K))
       → Q a
-  start_object (bad_start p) q k = different cc
-  start_object body q k = different cc
-  start_object colors_block q k = different cc
-  start_object {kind = kind} (object y {kind = n} p) q k = let z : n ≡ kind = cc in k y (p ∙ ap object_number z)
+  start_object {kind = kind} h i k = go (rw i at h)
+    where
+      go : {a : Answer Rule Spot Lent Refusal} → Starts B C O K (Ok (Object kind)) a → Q a
+      go (object y p) = k y p
 
 pub start_as :
     (Q : Answer Rule Spot Lent Refusal → Type 0) (bundle : Bytes) (o : Place) (τ : Lent) (B C : Answer Rule Spot Lent Refusal) (O : ObjectType → Answer (Selector × Bool) Spot Lent Refusal) (K : Selector × Bool → Spot → Lent → Answer Rule Spot Lent Refusal) {t v : Token}
@@ -323,16 +264,49 @@ ways_of bundle k σ τ =
       layer = λ a d. read_parts (reading bundle) k (with_layer σ a) d τ;
     }
 
+-- what the parts from one that was read on lead to
+module _ (bundle : Bytes) (s : Source) (c : Cursor) {r : Result Part Refusal} (h : PartRead bundle s c r) (τ : Lent) where
+  leads : (k : ℕ) (σ : Selector) → Parts bundle s (left bundle s c) (ways_of bundle k σ τ) r (read_parts (reading bundle) (suc k) σ (spot s c) τ)
+  unfolding read_parts
+  leads k σ = h τ (ways_of bundle k σ τ)
+
+  pub part_moves : {p : Part} → r ≡ Ok p → left bundle s (behind p) < left bundle s c
+  part_moves {p} e = part_good (λ a. left bundle s (behind p) < left bundle s c) _ _ _ _ (leads 0 (bare all)) e (λ m. m)
+
+  pub part_fails :
+      (k : ℕ) (σ : Selector) {b : ℕ} {then : Lent} {e : Refusal}
+      → r ≡ Err e
+      → Selects bundle s b then (Err e) (read_parts (reading bundle) (suc k) σ (spot s c) τ)
+  part_fails k σ e = part_bad (Selects bundle s _ _ _) _ _ _ _ (leads k σ) e (λ e τ p. no_selector p)
+
+  pub part_leads :
+      (k : ℕ) (σ : Selector) {b : ℕ} {then : Lent} {r' : Result (Bool × Cursor) Refusal} {p : Part}
+      → r ≡ Ok p
+      → (left bundle s (behind p) < left bundle s c → Selects bundle s b then r' (way bundle s (ways_of bundle k σ τ) p))
+      → Selects bundle s b then r' (read_parts (reading bundle) (suc k) σ (spot s c) τ)
+  part_leads k σ e q = part_good (Selects bundle s _ _ _) _ _ _ _ (leads k σ) e q
+
+  -- a part that more parts come after
+  pub part_on :
+      (σ σ' : Selector) {start : ℕ} {w : Answer (Selector × Bool) Spot Lent Refusal} {p : Part}
+      → Goes (Selects bundle s) bundle s start w c (λ f. read_parts (reading bundle) f σ (spot s c) τ)
+      → r ≡ Ok p
+      → ((k : ℕ) → way bundle s (ways_of bundle k σ τ) p ≡ read_parts (reading bundle) k σ' (spot s (behind p)) τ)
+      → Goes (Selects bundle s) bundle s start w (behind p) (λ f. read_parts (reading bundle) f σ' (spot s (behind p)) τ)
+  part_on σ σ' v e n =
+      goes_on (Selects bundle s) bundle s _ _ _ _ _ _ v (part_moves e) λ k l t r q.
+      part_leads k σ e λ m. widen_selector (omega arith) (subst (Selects bundle s _ t r) (sym (n k)) q)
+
 -- what a call has read
 pub read_value :
     {A : Type 0} {bundle : Bytes} {s : Source} {b : ℕ} {then : Lent} {r : Result Cursor Refusal} {a : Answer A Spot Lent Refusal} {d : Cursor}
     → Reads bundle s b then r a
     → r ≡ Ok d
     → (x : A) × ((a ≡ read x (spot s d) then) × (left bundle s d ≤ b))
-read_value (refuses p) q = different cc
-read_value {bundle = bundle} {s} {b} {then} {d = d} (done {x = x} e l) q =
-    let z : e ≡ d = cc in
-    (x, (ap (λ e. read x (spot s e) then) z, subst (λ e. left bundle s e ≤ b) z l))
+read_value {A} {bundle} {s} {b} {then} {d = d} h i = go (rw i at h)
+  where
+    go : {a : Answer A Spot Lent Refusal} → Reads bundle s b then (Ok d) a → (x : A) × ((a ≡ read x (spot s d) then) × (left bundle s d ≤ b))
+    go (done {x = x} d l) = (x, (refl, l))
 
 pub after_known :
     {A B : Type 0} (Q : Answer B Spot Lent Refusal → Type 0) (k : A → Spot → Lent → Answer B Spot Lent Refusal) {a : Answer A Spot Lent Refusal} {x : A} {d : Spot} {τ : Lent}
@@ -396,8 +370,10 @@ module _ {A : Type 0} (Q : Answer A Spot Lent Refusal → Type 0) {bundle : Byte
       → ((e' : Refusal) (τ : Lent) → e ≡ e' → Q (refused e' τ))
       → Q (after a k)
   unfolding after
-  after_unskipped {e = e} (unskipped {e = x}) q f = let z : e ≡ x = cc in f x τ z
-  after_unskipped (skipped d l) q f = different cc
+  after_unskipped {e = e} h i f = go (rw i at h)
+    where
+      go : {a : Answer Unit Spot Lent Refusal} → Skips bundle s b τ (Err e) a → Q (after a k)
+      go unskipped = f e τ refl
 
   pub after_skipped :
       {r : Result Cursor Refusal} {a : Answer Unit Spot Lent Refusal} {d : Cursor}
@@ -406,10 +382,10 @@ module _ {A : Type 0} (Q : Answer A Spot Lent Refusal → Type 0) {bundle : Byte
       → (left bundle s d ≤ b → Q (k tt (spot s d) τ))
       → Q (after a k)
   unfolding after
-  after_skipped unskipped q f = different cc
-  after_skipped {d = d} (skipped f l) q g =
-      let z : d ≡ f = cc in
-      subst (λ f. Q (k tt (spot s f) τ)) z (g (subst (λ f. left bundle s f ≤ b) (sym z) l))
+  after_skipped {d = d} h i q = go (rw i at h)
+    where
+      go : {a : Answer Unit Spot Lent Refusal} → Skips bundle s b τ (Ok d) a → Q (after a k)
+      go (skipped d l) = q l
 
 module _ (Q : Answer Rule Spot Lent Refusal → Type 0) (name : Bytes) (f : Answer (Selector × Bool) Spot Lent Refusal) (O : ObjectType → Answer (Selector × Bool) Spot Lent Refusal) (K : Selector × Bool → Spot → Lent → Answer Rule Spot Lent Refusal) where
   pub no_object : object_kind name ≡ None → Q (after f K) → Q (after (on_option (id_to_object_type name) f O) K)
@@ -431,21 +407,49 @@ module _ (Q : Answer Rule Spot Lent Refusal → Type 0) (name : Bytes) (f : Answ
 -- ---- what the start of a rule leads to
 
 module _ (bundle : Bytes) (k : ℕ) (Γ : Colors) where
-  abbrev pub rule_object : Spot → Lent → ObjectType → Answer (Selector × Bool) Spot Lent Refusal
+  abbrev rule_object : Spot → Lent → ObjectType → Answer (Selector × Bool) Spot Lent Refusal
   rule_object d τ y = read_parts (reading bundle) k (bare y) d τ
 
-  abbrev pub rule_next : Selector → Token' → Place → Spot → Lent → Answer Rule Spot Lent Refusal
+  abbrev rule_last : Selector → Spot → Lent → Answer Rule Spot Lent Refusal
+  rule_last σ = read_body (reading bundle) k Γ (σ ∷ [])
+
+  abbrev rule_next : Selector → Token' → Place → Spot → Lent → Answer Rule Spot Lent Refusal
   rule_next σ t o f τ = after (read_rule (reading bundle) k Γ τ t o f) λ r g τ. read (add_selector σ r) g τ
 
-  abbrev pub rule_chosen : Selector × Bool → Spot → Lent → Answer Rule Spot Lent Refusal
-  rule_chosen σ e τ =
-      cond σ.1 (read_mandatory_token (reading bundle) e τ λ t o f. rule_next σ.0 t o f τ) (read_body (reading bundle) k Γ (σ.0 ∷ []) e τ)
+  abbrev rule_chosen : Selector × Bool → Spot → Lent → Answer Rule Spot Lent Refusal
+  rule_chosen σ e τ = cond σ.1 (read_mandatory_token (reading bundle) e τ λ t o f. rule_next σ.0 t o f τ) (rule_last σ.0 e τ)
 
-  pub rule_starts :
-      (τ : Lent) (t : Token') (o : Place) (d : Spot) {r : Result Start Refusal}
-      → Starts (read_body (reading bundle) k Γ [] d τ) (read_block (reading bundle) k d τ) (rule_object d τ) rule_chosen r
-      (start_of bundle o τ (read_body (reading bundle) k Γ [] d τ) (read_block (reading bundle) k d τ) (rule_object d τ) rule_chosen t)
-      → Starts (read_body (reading bundle) k Γ [] d τ) (read_block (reading bundle) k d τ) (rule_object d τ) rule_chosen r
-      (read_rule (reading bundle) (suc k) Γ τ t o d)
-  unfolding read_rule read_selector start_of
-  rule_starts τ t o d h = h
+  module _ (s : Source) (τ : Lent) (t : Token) (o : Place) (c : Cursor) {r : Result Start Refusal} (h : StartRead bundle t o r) where
+    pub rule_starts :
+        Starts (read_body (reading bundle) k Γ [] (spot s c) τ) (read_block (reading bundle) k (spot s c) τ) (rule_object (spot s c) τ) rule_chosen r
+        (read_rule (reading bundle) (suc k) Γ τ (token_of bundle t) o (spot s c))
+    unfolding read_rule read_selector start_of
+    rule_starts = h τ (read_body (reading bundle) k Γ [] (spot s c) τ) (read_block (reading bundle) k (spot s c) τ) (rule_object (spot s c) τ) rule_chosen
+
+    pub rule_chooses :
+        {kind : ObjectKind} {τ' : Lent} {r' : Result Choice Refusal}
+        → r ≡ Ok (Object kind)
+        → ChoiceRead bundle s (object_number kind) c τ τ' r'
+        → left bundle s c < k
+        → Chooses bundle s (left bundle s c) τ' rule_last rule_next r' (read_rule (reading bundle) (suc k) Γ τ (token_of bundle t) o (spot s c))
+    rule_chooses {τ'} {r'} e p l =
+        start_object (Chooses bundle s (left bundle s c) τ' rule_last rule_next r') rule_starts e λ y q. p k y rule_last rule_next q l
+
+-- behind a selector and the first token of the next, less is left
+pub choice_moves :
+    (bundle : Bytes) (s : Source) (τ : Lent) (t : Token) (o : Place) (c : Cursor) {r : Result Start Refusal} {kind : ObjectKind} {τ' : Lent} {r' : Result Choice Refusal} {u : Token} {p : Place} {d : Cursor}
+    → StartRead bundle t o r
+    → r ≡ Ok (Object kind)
+    → ChoiceRead bundle s (object_number kind) c τ τ' r'
+    → r' ≡ Ok (Some (u, p), d)
+    → left bundle s d < left bundle s c
+choice_moves bundle s τ t o c {d = d} h e p q =
+    choice_next (λ a. left bundle s d < left bundle s c) (rule_chooses bundle (suc (left bundle s c)) [] s τ t o c h e p (omega arith)) q λ σ m. m
+
+-- the same colours by another name of their table
+pub body_colors :
+    (bundle : Bytes) (s : Source) (c : Cursor) (n : ℕ) (τ τ' : Lent) {r : Result Cursor Refusal} {cs ds : List ℕ}
+    → cs ≡ ds
+    → BodyRead bundle s c (colors_of bundle cs n) τ τ' r
+    → BodyRead bundle s c (colors_of bundle ds n) τ τ' r
+body_colors bundle s c n τ τ' {r = r} e h = subst (λ cs. BodyRead bundle s c (colors_of bundle cs n) τ τ' r) e h

@@ -2,6 +2,7 @@
 use Rattle.std.specs.Prelude.{ℕ, suc, ◌<◌, ◌≤◌, ◌≡◌, Bool, true, false, cond, List, Option, Some, None, Result, Ok, Err}
 use Rattle.std.proofs.Math.Option.{Option as Option'}
 use Rattle.base.specs.Bytes.{Bytes, within}
+use Rattle.base.specs.Option.{on_result}
 use Rattle.base.specs.declared.Range.{Range}
 use Rattle.base.specs.declared.refusal.Refusal.{Refusal}
 use Rattle.cursor.specs.declared.Cursor.{Cursor}
@@ -84,12 +85,12 @@ pub data Selects (bundle : Bytes) (s : Source) (bound : ℕ) (then : Lent) : Res
       → left bundle s d ≤ bound
       → Selects bundle s bound then (Ok (b, d)) (read (σ, b) (spot s d) then)
 
--- from the tables τ to the tables τ'
-abbrev pub SelectorKept : Source → ℕ → Option ℕ → Option ℕ → Option Range → Bool → Cursor → Lent → Lent → Result (Bool × Cursor) Refusal → Type 0
-SelectorKept s kind min max layer more c τ τ' r =
-    (bundle : Bytes) (σ : Selector)
+-- from the tables τ to the tables τ', whether more selectors come or not
+abbrev pub SelectorKept : Source → ℕ → Option ℕ → Option ℕ → Option Range → Cursor → Lent → Lent → Result Cursor Refusal → Type 0
+SelectorKept s kind min max layer c τ τ' r =
+    (bundle : Bytes) (σ : Selector) (more : Bool)
     → Shown σ kind min max layer
-    → Selects bundle s (left bundle s c) τ' r (keep_selector (reading bundle) σ more (spot s c) τ)
+    → Selects bundle s (left bundle s c) τ' (on_result r Err λ d. Ok (more, d)) (keep_selector (reading bundle) σ more (spot s c) τ)
 
 abbrev pub SelectorRead : Bytes → Source → ℕ → Cursor → Lent → Lent → Result (Bool × Cursor) Refusal → Type 0
 SelectorRead bundle s kind c τ τ' r =

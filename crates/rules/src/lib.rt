@@ -76,17 +76,16 @@ fn store_selector(
     min: Option<u8>,
     max: Option<u8>,
     layer: Option<Range>,
-    more: bool,
     c: Cursor,
     store: &mut Store<'_>,
-) -> Result<(bool, Cursor), Refusal>
-    ensures read { SelectorKept source (object_number kind) min max layer more c (lent_in store.old) (lent_in store.new) result }
+) -> Result<Cursor, Refusal>
+    ensures read { SelectorKept source (object_number kind) min max layer c (lent_in store.old) (lent_in store.new) result }
     ensures beside { beside_selectors store.new ≡ beside_selectors store.old }
 {
     store
         .keep_selector(kind.number(), min, max, layer)
         .ok_or(refuse_reached(TABLE_FULL, SELECTORS, source, c))?;
-    Ok((more, c))
+    Ok(c)
 }
 
 // Behind the object type of a selector.
@@ -106,7 +105,8 @@ fn read_selector(
     loop {
         at = match read_part(text, at)? {
             Part::Closing(more, d) => {
-                return store_selector(text.source, kind, min, max, layer, more, d, store);
+                let e = store_selector(text.source, kind, min, max, layer, d, store)?;
+                return Ok((more, e));
             }
             Part::Zoom(a, b, d) => {
                 min = a;
@@ -214,14 +214,9 @@ pub fn read_rule(
     let mut begins = o;
     let mut at = c;
     loop {
-        let start = rule_start(text.bundle, first, begins)?;
-        match start {
-            Start::Body => {
-                return read_body(text, at, store, known);
-            }
-            Start::ColorsBlock => {
-                return read_block(text, at, store);
-            }
+        match rule_start(text.bundle, first, begins)? {
+            Start::Body => return read_body(text, at, store, known),
+            Start::ColorsBlock => return read_block(text, at, store),
             Start::Object(kind) => {
                 let (next, d) = read_choice(text, kind, at, store)?;
                 let Some((u, p)) = next else {

@@ -12,6 +12,7 @@ pub struct Encoding {
 }
 
 // The encoding of a scalar value; no other number has one.
+#[tactic(auto, unfolding(base::specs::Choice::pick, crate::specs::Scalar::encoding_of), using(crate::proofs::Scalars::scalar_below))]
 pub fn encode(k: u32) -> Option<Encoding>
     ensures { result ≡ encoding_of k }
 {
@@ -29,6 +30,7 @@ pub fn is_scalar(k: u32) -> bool
     matches!(k, 0..=0xD7FF | 0xE000..=0x10FFFF)
 }
 
+#[tactic(auto, unfolding(base::specs::Choice::pick, crate::specs::Scalar::encode_of, crate::specs::Scalar::scalar_encoding))]
 fn encode_scalar(k: u32) -> Encoding
     requires { k < 0x110000 }
     ensures { result ≡ scalar_encoding k }

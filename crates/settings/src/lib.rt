@@ -27,6 +27,7 @@ pub fn counts_at(counts: &[u64]) -> Counts
     }
 }
 
+#[tactic(auto, unfolding(base::specs::Choice::pick, crate::specs::Settings::type_of))]
 pub fn type_of(k: u8) -> StyleType
     ensures { result ≡ type_of k }
 {

@@ -10,7 +10,6 @@ use types.Run.{OneOf}
 use mir.Val.{has_key}
 use denote.Enum.Declared.{tag_of}
 use Rattle.base.specs.Bytes.{Bytes, within}
-use Rattle.base.specs.Choice.{different}
 use Rattle.base.specs.declared.Range.{Range}
 use Rattle.base.specs.declared.refusal.Refusal.{Refusal}
 use Rattle.bundle.specs.Bundle.{find_of}
@@ -146,87 +145,51 @@ module _ {A : Type 0} (Q : Answer A Spot Lent Refusal → Type 0) (bundle : Byte
 
 module _ {A : Type 0} (Q : Answer A Spot Lent Refusal → Type 0) {bundle : Bytes} {s : Source} {bound : ℕ} {E : Spot → Answer A Spot Lent Refusal} {I C : Name → Spot → Answer A Spot Lent Refusal} {R : Token' → Place → Spot → Answer A Spot Lent Refusal} {r : Result Statement Refusal} {a : Answer A Spot Lent Refusal} (h : Statements bundle s bound E I C R r a) where
   pub statement_bad : {e : Refusal} → r ≡ Err e → ((e' : Refusal) (τ : Lent) → e ≡ e' → Q (refused e' τ)) → Q a
-  statement_bad {e} = go h
+  statement_bad {e} i k = go (rw i at h)
     where
-      go : {r : Result Statement Refusal} {a : Answer A Spot Lent Refusal} → Statements bundle s bound E I C R r a → r ≡ Err e → ((e' : Refusal) (τ : Lent) → e ≡ e' → Q (refused e' τ)) → Q a
-      go (bad_statement {e = x} {e' = y} {τ = τ} p) q k = let z : x ≡ e = cc in k y τ (sym z ∙ p)
-      go (end_of_text f) q k = different cc
-      go (import_of y f p) q k = different cc
-      go (color_at y f p) q k = different cc
-      go (rule_at y z f p) q k = different cc
+      go : {a : Answer A Spot Lent Refusal} → Statements bundle s bound E I C R (Err e) a → Q a
+      go (bad_statement {e' = y} {τ = τ} p) = k y τ p
 
   pub statement_end : r ≡ Ok EndOfText → ((d : Cursor) → Q (E (spot s d))) → Q a
-  statement_end = go h
+  statement_end i k = go (rw i at h)
     where
-      go : {r : Result Statement Refusal} {a : Answer A Spot Lent Refusal} → Statements bundle s bound E I C R r a → r ≡ Ok EndOfText → ((d : Cursor) → Q (E (spot s d))) → Q a
-      go (bad_statement p) q k = different cc
-      go (end_of_text f) q k = k f
-      go (import_of y f p) q k = different cc
-      go (color_at y f p) q k = different cc
-      go (rule_at y z f p) q k = different cc
+      go : {a : Answer A Spot Lent Refusal} → Statements bundle s bound E I C R (Ok EndOfText) a → Q a
+      go (end_of_text d) = k d
 
   pub statement_import : {x : Range} {d : Cursor} → r ≡ Ok (ImportOf x d) → (left bundle s d < bound → Q (I (name_in bundle x) (spot s d))) → Q a
-  statement_import {x} {d} = go h
+  statement_import {x} {d} i k = go (rw i at h)
     where
-      go : {r : Result Statement Refusal} {a : Answer A Spot Lent Refusal} → Statements bundle s bound E I C R r a → r ≡ Ok (ImportOf x d) → (left bundle s d < bound → Q (I (name_in bundle x) (spot s d))) → Q a
-      go (bad_statement p) q k = different cc
-      go (end_of_text f) q k = different cc
-      go (import_of y f p) q k =
-          let z : d ≡ f = cc in
-          let w : x ≡ y = cc in
-          subst (λ y. Q (I (name_in bundle y) (spot s f))) w
-          (subst (λ f. Q (I (name_in bundle x) (spot s f))) z (k (subst (λ f. left bundle s f < bound) (sym z) p)))
-      go (color_at y f p) q k = different cc
-      go (rule_at y z f p) q k = different cc
+      go : {a : Answer A Spot Lent Refusal} → Statements bundle s bound E I C R (Ok (ImportOf x d)) a → Q a
+      go (import_of x d l) = k l
 
   pub statement_color : {x : Range} {d : Cursor} → r ≡ Ok (ColorOf x d) → (left bundle s d < bound → Q (C (name_in bundle x) (spot s d))) → Q a
-  statement_color {x} {d} = go h
+  statement_color {x} {d} i k = go (rw i at h)
     where
-      go : {r : Result Statement Refusal} {a : Answer A Spot Lent Refusal} → Statements bundle s bound E I C R r a → r ≡ Ok (ColorOf x d) → (left bundle s d < bound → Q (C (name_in bundle x) (spot s d))) → Q a
-      go (bad_statement p) q k = different cc
-      go (end_of_text f) q k = different cc
-      go (import_of y f p) q k = different cc
-      go (color_at y f p) q k =
-          let z : d ≡ f = cc in
-          let w : x ≡ y = cc in
-          subst (λ y. Q (C (name_in bundle y) (spot s f))) w
-          (subst (λ f. Q (C (name_in bundle x) (spot s f))) z (k (subst (λ f. left bundle s f < bound) (sym z) p)))
-      go (rule_at y z f p) q k = different cc
+      go : {a : Answer A Spot Lent Refusal} → Statements bundle s bound E I C R (Ok (ColorOf x d)) a → Q a
+      go (color_at x d l) = k l
 
   pub statement_rule : {t : Token} {o : Place} {d : Cursor} → r ≡ Ok (RuleAt t o d) → (left bundle s d < bound → Q (R (token_of bundle t) o (spot s d))) → Q a
-  statement_rule {t} {o} {d} = go h
+  statement_rule {t} {o} {d} i k = go (rw i at h)
     where
-      go : {r : Result Statement Refusal} {a : Answer A Spot Lent Refusal} → Statements bundle s bound E I C R r a → r ≡ Ok (RuleAt t o d) → (left bundle s d < bound → Q (R (token_of bundle t) o (spot s d))) → Q a
-      go (bad_statement p) q k = different cc
-      go (end_of_text f) q k = different cc
-      go (import_of y f p) q k = different cc
-      go (color_at y f p) q k = different cc
-      go (rule_at u v f p) q k =
-          let z : d ≡ f = cc in
-          let w : t ≡ u = cc in
-          let y : o ≡ v = cc in
-          subst (λ u. Q (R (token_of bundle u) v (spot s f))) w
-          (subst (λ v. Q (R (token_of bundle t) v (spot s f))) y
-          (subst (λ f. Q (R (token_of bundle t) o (spot s f))) z (k (subst (λ f. left bundle s f < bound) (sym z) p))))
+      go : {a : Answer A Spot Lent Refusal} → Statements bundle s bound E I C R (Ok (RuleAt t o d)) a → Q a
+      go (rule_at t o d l) = k l
 
 -- ---- what a whole text has read
 
 module _ {B : Type 0} (Q : Answer B Spot Lent Refusal → Type 0) {then : Lent} {r : Result Unit Refusal} {a : Answer Reading Spot Lent Refusal} (k : Reading → Spot → Lent → Answer B Spot Lent Refusal) (h : Parses then r a) where
   after_stopped : {e : Refusal} → r ≡ Err e → ((e' : Refusal) (τ : Lent) → e ≡ e' → Q (refused e' τ)) → Q (after a k)
   unfolding after
-  after_stopped {e} = go h
+  after_stopped {e} i f = go (rw i at h)
     where
-      go : {r : Result Unit Refusal} {a : Answer Reading Spot Lent Refusal} → Parses then r a → r ≡ Err e → ((e' : Refusal) (τ : Lent) → e ≡ e' → Q (refused e' τ)) → Q (after a k)
-      go (stopped {e = x} {e' = y} {τ = τ} p) q f = let z : x ≡ e = cc in f y τ (sym z ∙ p)
-      go ended q f = different cc
+      go : {a : Answer Reading Spot Lent Refusal} → Parses then (Err e) a → Q (after a k)
+      go (stopped {e' = y} {τ = τ} p) = f y τ p
 
   after_ended : {u : Unit} → r ≡ Ok u → ((x : Reading) (p : Spot) → Q (k x p then)) → Q (after a k)
   unfolding after
-  after_ended {u} = go h
+  after_ended {u} i f = go (rw i at h)
     where
-      go : {r : Result Unit Refusal} {a : Answer Reading Spot Lent Refusal} → Parses then r a → r ≡ Ok u → ((x : Reading) (p : Spot) → Q (k x p then)) → Q (after a k)
-      go (stopped p) q f = different cc
-      go (ended {js = js} {p = p}) q f = f js p
+      go : {a : Answer Reading Spot Lent Refusal} → Parses then (Ok u) a → Q (after a k)
+      go (ended {js = js} {p = p}) = f js p
 
 -- what is read behind a statement, with the statement before it
 before_parses : {then : Lent} {r : Result Unit Refusal} (js : Reading) (a : Answer Reading Spot Lent Refusal) → Parses then r a → Parses then r (after a λ ks c τ. read (js ++ ks) c τ)

@@ -3,20 +3,16 @@ use Prim.Native.Nat.{ℕ, zero, suc, ◌+◌, ◌-◌, ◌<◌, ◌≤◌}
 use native.Mathlib.Numerals.{add-one}
 use native.Mathlib.Omega.{arith}
 use mathlib.Core.Path.{◌≡◌, refl, sym, ◌∙◌, ap}
-use mathlib.Core.Bool.{Bool, true, false}
+use mathlib.Core.Bool.{Bool}
 use mathlib.Core.List.{List, [], ◌++◌, map, append-nil}
-use lib.Dec.{leb, ltb}
 use lib.Ieee.{Float}
 use lib.ListN.{length, length-append}
-use borrow.Author.Tests.{leb-false}
 use Rattle.base.specs.Bytes.{Bytes}
-use Rattle.base.specs.Choice.{pick, pick_split}
 use Rattle.base.specs.Turns.{Turn, turns}
 use Rattle.base.specs.declared.refusal.Refusal.{Refusal}
-use Rattle.entity.specs.Layout.{value_of, entity_at, next_of, Stream, stream_from, stream_of}
+use Rattle.entity.specs.Layout.{value_of, next_of, Stream, stream_from, stream_of}
 use Rattle.entity.specs.declared.EntityRange.{EntityRange}
 use Rattle.entity.specs.declared.Sort.{Sort}
-use Rattle.entity.proofs.Inverse.{end_there}
 use Rattle.sheet.specs.Sheet.{Rule, Value}
 use Rattle.cascade.specs.Draw.{Drawn, Drawing, declined, entries, entity_drawing, join, fit, size, stream_within}
 use Rattle.cascade.proofs.DrawProof.{join_assoc}
@@ -28,6 +24,7 @@ use Rattle.keep.specs.Lent.{Lent, lent, counted}
 use Rattle.walk.specs.Maps.{walk_of}
 use Rattle.maps.proofs.Held.{walk_is, refusal_named}
 use Rattle.style.specs.declared.Settings.{Settings}
+use Rattle.drawing.proofs.GatherLaws.{next_end}
 use Rattle.drawing.specs.Gather.{Gathered, gathered, on-Gathered, Spot, entity_keys, gather_turn, gather_of}
 use Rattle.shown.specs.Style.{settings_shown}
 use Rattle.shown.specs.Draws.{ended, stream_drawn}
@@ -36,41 +33,6 @@ use Rattle.shown.proofs.StylesAre.{numbered_rules}
 use Rattle.shown.proofs.DrawKeys.{key_for, keys_of, entity_keys_lem, push_is}
 use Rattle.std.specs.Prelude.{Option, Some, None, Result, Ok, Err}
 use Rattle.base.specs.Option.{on_option, on_result}
-
--- ---- an entity that is read ends behind its place
-
-bad_next : {A : Type 0} (b : Refusal) (r : EntityRange) → Err b ≡ Ok (Some r) → A
-bad_next b r p = let z : ◌≡◌ {A = ℕ} 0 1 = cc in absurd (omega arith)
-
-no_next : {A : Type 0} (r : EntityRange) → ◌≡◌ {A = Result (Option EntityRange) Refusal} (Ok None) (Ok (Some r)) → A
-no_next r p = let z : ◌≡◌ {A = ℕ} 0 1 = cc in absurd (omega arith)
-
-picked : (t : Bool) (o r : EntityRange) (b : Refusal) → pick t (Ok (Some o)) (Err b) ≡ Ok (Some r) → o ≡ r
-unfolding pick
-picked true o r b p = cc
-picked false o r b p = bad_next b r p
-
-read_whole :
-    (x : Option EntityRange) (t : EntityRange → Bool) (b c : Refusal) (r : EntityRange)
-    → on_option x (Err b) (λ e. pick (t e) (Ok (Some e)) (Err c)) ≡ Ok (Some r)
-    → x ≡ Some r
-unfolding on_option
-read_whole None t b c r p = bad_next b r p
-read_whole (Some o) t b c r p = ap Some (picked (t o) o r c p)
-
-next_forward :
-    (sort : Sort) (mp : Bool) (s : Bytes) (at place : ℕ) (r : EntityRange)
-    → next_of sort mp s at place ≡ Ok (Some r)
-    → (at < length s) × (at < r.end)
-unfolding next_of
-next_forward sort mp s at place r =
-    let P : Result (Option EntityRange) Refusal → Type 0 = λ x. x ≡ Ok (Some r) → (at < length s) × (at < r.end) in
-    pick_split P (ltb 1048576 (length s)) _ _
-    (λ a. bad_next _ r)
-    (λ a.
-    pick_split P (leb (length s) at) _ _
-    (λ c. no_next r)
-    (λ c p. (leb-false (length s) at c, (end_there sort s at r (read_whole (entity_at sort s at) _ _ _ r p)).0)))
 
 -- ---- the stream
 
@@ -157,8 +119,8 @@ module _
   next_on d fuel at place xs rest h (Err r) p = rw (gather_turn, p)
   next_on d fuel at place xs rest h (Ok None) p = rw (gather_turn, p, append-nil xs)
   next_on d fuel at place xs rest h (Ok (Some e)) p =
-      let f = next_forward sort mp b at place e p in
-      read_on d fuel at place xs e rest (omega arith) p (fit room (length xs) (one place e)) refl
+      let f = next_end sort mp b at place e p in
+      read_on d fuel at place xs e rest (omega (arith, f.0, f.1)) p (fit room (length xs) (one place e)) refl
 
   all_read : (d : Gathered) (fuel : ℕ) → Rest d fuel
   all_read d zero at place xs h = absurd (omega arith)

@@ -70,7 +70,7 @@ pub nodes_are : NodesAre
 unfolding nodes_of pick settings_shown
 nodes_are bundle rules selectors tests properties numbers colors n zoom s len nodes sound =
     let l = s.for_labels in
-    let few = rules_few bundle rules selectors tests properties numbers n true (sym sound) refl in
+    let few = rules_few bundle rules selectors tests properties numbers n sound in
     let rs = rules_of bundle rules selectors tests properties numbers colors n in
     let d = stream_drawn (room_of len) (settings_shown s) zoom rs false 0 (stream_of Nodes false nodes) in
     rw sound
@@ -84,7 +84,7 @@ pub areas_are : AreasAre
 unfolding areas_of pick settings_shown
 areas_are bundle rules selectors tests properties numbers colors n zoom s len ways multipolygons sound =
     let l = s.for_labels in
-    let few = rules_few bundle rules selectors tests properties numbers n true (sym sound) refl in
+    let few = rules_few bundle rules selectors tests properties numbers n sound in
     let rs = rules_of bundle rules selectors tests properties numbers colors n in
     let keys = stream_keys bundle rules selectors tests properties numbers colors n.rules zoom few s (room_of len) Areas in
     let next = gather_of bundle rules selectors tests properties numbers n.rules zoom l (room_of len) Areas true multipolygons in

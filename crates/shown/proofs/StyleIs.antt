@@ -8,9 +8,10 @@ use mathlib.Core.Option.{Option as Maybe, none, some}
 use lib.Dec.{eqb, ltb}
 use lib.Ieee.{Float, binary64, mul}
 use lib.ListN.{length, take, drop}
+use Rattle.std.proofs.Math.Dec.{leb-suc-suc}
 use Rattle.base.specs.Bytes.{Bytes, ascii, same, within}
 use native.Mathlib.Omega.{arith}
-use borrow.Author.Tests.{eqb-true, eq-eqb, lt-ltb, le-ltb, ltb-true, ltb-false, not-true}
+use borrow.Author.Tests.{eqb-true, eq-eqb, lt-ltb, not-true}
 use Rattle.base.specs.Choice.{pick, by-test, clash, and_left, and_right}
 use Rattle.base.specs.Map.{Map, lookup}
 use Rattle.color.specs.Named.{Named, named_colors, first_named, color_named}
@@ -20,7 +21,7 @@ use Rattle.cascade.specs.Style as theory
 use Rattle.cascade.specs.Style.{named_color, as_color, as_number, as_identifier, as_text, as_dashes, as_delta, cap_names, position_names, is_background, width_of, style_from}
 use Rattle.sheet.specs.Sheet.{Value, numbers}
 use Rattle.table.specs.declared.Name.TheVariants.{Plain, Joined}
-use Rattle.table.specs.declared.PropertyValue.TheVariants.{NoValue, Identifier, Text, Shade, Numbers, WidthDelta}
+use Rattle.table.specs.declared.PropertyValue.TheVariants.{NoValue, Identifier, Numbers}
 use Rattle.decode.specs.Decode.{name_at, value_of}
 use Rattle.keep.specs.Lent.{Lent}
 use Rattle.walk.specs.Rows.{place_of}
@@ -77,10 +78,7 @@ unfolding color_named first_named same pick
 nothing_unknown = refl
 
 ltb_suc : (a b : ℕ) → ltb (suc a) (suc b) ≡ ltb a b
-ltb_suc a b =
-    by-test (ltb a b)
-    (λ e. let h = ltb-true a b e in rw e (lt-ltb (suc a) (suc b) (omega arith)))
-    (λ e. let h = ltb-false a b e in rw e (le-ltb (suc a) (suc b) (omega arith)))
+ltb_suc a b = leb-suc-suc (suc a) b
 
 -- ---- what a getter reads
 
@@ -142,93 +140,51 @@ module _ (bundle : Bytes) (τ : Lent) where
 
   color_is : (p : Option PropertyValue) → named_color (color_of bundle p) ≡ as_color (valued p)
   unfolding color_of name_color as_color valued named_color
-  color_is None = refl
   color_is (Some NoValue) = ap named_color nothing_unknown
-  color_is (Some (Identifier (Plain a))) = refl
   color_is (Some (Identifier (Joined a b))) = sym (ap named_color (joined_unknown (within a bundle) (within b bundle)))
-  color_is (Some (Text a)) = refl
-  color_is (Some (Shade c)) = refl
-  color_is (Some (Numbers r)) = refl
-  color_is (Some (WidthDelta x)) = refl
+  color_is p = refl
 
   number_is : (p : Option PropertyValue) → shown (number_of τ.numbers p) ≡ as_number (valued p)
   unfolding number_of measure_shown as_number valued
-  number_is None = refl
-  number_is (Some NoValue) = refl
   number_is (Some (Identifier (Plain a))) = refl
-  number_is (Some (Identifier (Joined a b))) = refl
-  number_is (Some (Text a)) = refl
-  number_is (Some (Shade c)) = refl
   number_is (Some (Numbers r)) = one_is (take (r.to - r.from) (drop r.from τ.numbers))
-  number_is (Some (WidthDelta x)) = refl
+  number_is p = refl
 
   delta_is : (p : Option PropertyValue) → shown (delta_of p) ≡ as_delta (valued p)
   unfolding delta_of measure_shown as_delta valued
-  delta_is None = refl
-  delta_is (Some NoValue) = refl
   delta_is (Some (Identifier (Plain a))) = refl
-  delta_is (Some (Identifier (Joined a b))) = refl
-  delta_is (Some (Text a)) = refl
-  delta_is (Some (Shade c)) = refl
-  delta_is (Some (Numbers r)) = refl
-  delta_is (Some (WidthDelta x)) = refl
+  delta_is p = refl
 
   dashes_is : (p : Option PropertyValue) → dashes_shown bundle τ.numbers (dashes_of p) ≡ as_dashes (valued p)
   unfolding dashes_of dashes_shown as_dashes valued
-  dashes_is None = refl
-  dashes_is (Some NoValue) = refl
   dashes_is (Some (Identifier (Plain a))) = refl
-  dashes_is (Some (Identifier (Joined a b))) = refl
-  dashes_is (Some (Text a)) = refl
-  dashes_is (Some (Shade c)) = refl
-  dashes_is (Some (Numbers r)) = refl
-  dashes_is (Some (WidthDelta x)) = refl
+  dashes_is p = refl
 
   text_is : (p : Option PropertyValue) → text_shown bundle τ.numbers (text_of p) ≡ as_text (valued p)
   unfolding text_of text_shown as_text valued
-  text_is None = refl
-  text_is (Some NoValue) = refl
   text_is (Some (Identifier (Plain a))) = refl
-  text_is (Some (Identifier (Joined a b))) = refl
-  text_is (Some (Text a)) = refl
-  text_is (Some (Shade c)) = refl
-  text_is (Some (Numbers r)) = refl
-  text_is (Some (WidthDelta x)) = refl
+  text_is p = refl
 
   cap_is : (p : Option PropertyValue) → cap_shown (cap_named (word_of bundle p)) ≡ and_map (λ i. lookup i cap_names) (as_identifier (valued p))
   unfolding word_range name_range as_identifier valued and_map
-  cap_is None = cap_none
   cap_is (Some NoValue) = cap_named_lem []
   cap_is (Some (Identifier (Plain a))) = cap_named_lem (within a bundle)
   cap_is (Some (Identifier (Joined a b))) = cap_none ∙ sym (no_cap (within a bundle) (within b bundle))
-  cap_is (Some (Text a)) = cap_none
-  cap_is (Some (Shade c)) = cap_none
-  cap_is (Some (Numbers r)) = cap_none
-  cap_is (Some (WidthDelta x)) = cap_none
+  cap_is p = cap_none
 
   position_is :
       (p : Option PropertyValue)
       → position_shown (position_named (word_of bundle p)) ≡ and_map (λ i. lookup i position_names) (as_identifier (valued p))
   unfolding word_range name_range as_identifier valued and_map
-  position_is None = position_none
   position_is (Some NoValue) = position_named_lem []
   position_is (Some (Identifier (Plain a))) = position_named_lem (within a bundle)
   position_is (Some (Identifier (Joined a b))) = position_none ∙ sym (no_position (within a bundle) (within b bundle))
-  position_is (Some (Text a)) = position_none
-  position_is (Some (Shade c)) = position_none
-  position_is (Some (Numbers r)) = position_none
-  position_is (Some (WidthDelta x)) = position_none
+  position_is p = position_none
 
   background_is : (p : Option PropertyValue) → same (word_of bundle p) (ascii "background") ≡ is_background (as_identifier (valued p))
   unfolding word_range name_range as_identifier valued is_background same plain
-  background_is None = refl
-  background_is (Some NoValue) = refl
-  background_is (Some (Identifier (Plain a))) = refl
   background_is (Some (Identifier (Joined a b))) = sym (colon_differs (within a bundle) (within b bundle) (ascii "background") refl)
-  background_is (Some (Text a)) = refl
-  background_is (Some (Shade c)) = refl
-  background_is (Some (Numbers r)) = refl
-  background_is (Some (WidthDelta x)) = refl
+  background_is p = refl
 
   -- ---- the property of a name
 

@@ -1,7 +1,7 @@
 -- The styles that a call answers are the theory's.
 use Prim.Native.Nat.{ℕ, ◌≤◌}
 use mathlib.Core.Path.{◌≡◌, refl, sym, ◌∙◌, ap, ap₂}
-use mathlib.Core.Bool.{true, false}
+use mathlib.Core.Bool.{false}
 use mathlib.Core.List.{List, [], ◌∷◌, map, map-map}
 use mathlib.Core.Option.{Option, none, some}
 use lib.IntN.{ℤ}
@@ -119,6 +119,6 @@ styles_are bundle rules selectors tests properties numbers colors n zoom s entit
     ∙ ap (styling_of (settings_shown s) d)
     (ap (map_answer f)
     (walk_is bundle rules selectors tests properties numbers n.rules zoom entity e false 0
-    (rules_few bundle rules selectors tests properties numbers n true (sym sound) refl))
+    (rules_few bundle rules selectors tests properties numbers n sound))
     ∙ sym (maps_mapped f zoom d rs)
     ∙ ap (property_maps zoom d) (numbered_rules bundle τ)))

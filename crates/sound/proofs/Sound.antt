@@ -10,7 +10,7 @@ use lib.Seq.{get_or_at}
 use Rattle.base.specs.Table.{zero_float}
 use Rattle.base.specs.declared.Range.{Range}
 use Rattle.sheet.specs.Digits.{is_whole}
-use Rattle.sheet.specs.Sheet.{ObjectType, all, canvas, meta, node, way, area, UnaryTest, exists, not_exists, is_true, is_false, TextTest, equal, not_equal, NumericTest, less, less_or_equal, greater, greater_or_equal}
+use Rattle.sheet.specs.Sheet.{ObjectType, all, UnaryTest, exists, TextTest, equal, not_equal, NumericTest, less}
 use Rattle.table.specs.Value.{word}
 use Rattle.entries.specs.Words.{rule_words, selector_words}
 use Rattle.table.specs.declared.Name.{Name}
@@ -86,11 +86,7 @@ module _ (bundle : ℕ) where
 
     type_kind : (t : ObjectType) → (1 ≤ type_number t) × (type_number t ≤ 6)
     type_kind all = (omega arith, omega arith)
-    type_kind canvas = (omega arith, omega arith)
-    type_kind meta = (omega arith, omega arith)
-    type_kind node = (omega arith, omega arith)
-    type_kind way = (omega arith, omega arith)
-    type_kind area = (omega arith, omega arith)
+    type_kind t = (omega arith, omega arith)
 
     sound_selector : (σ : Selector) (ρ : Rows) → Layer bundle (layer_in σ.layer_id) → Sound ρ → Sound (add_row ρ (selector_entry σ))
     sound_selector σ ρ y v =
@@ -138,16 +134,13 @@ module _ (bundle : ℕ) where
 
     -- the number of a test or a width delta is the first that no entry has taken
     abbrev Ready : Rows → Test → Type 0
-    Ready ρ (unary o a) = Unit {0}
-    Ready ρ (text o a (plain b)) = Unit {0}
     Ready ρ (text o a (digits x)) = (ρ.tally.number < ρ.tally.numbers) × (get_or ρ.numbers ρ.tally.number zero_float ≡ x)
     Ready ρ (numeric o a x) = ρ.tally.number < ρ.tally.numbers
+    Ready ρ x = Unit {0}
 
     unary_kind_lem : (o : UnaryTest) → (1 ≤ unary_kind o) × (unary_kind o ≤ 4)
     unary_kind_lem exists = (omega arith, omega arith)
-    unary_kind_lem not_exists = (omega arith, omega arith)
-    unary_kind_lem is_true = (omega arith, omega arith)
-    unary_kind_lem is_false = (omega arith, omega arith)
+    unary_kind_lem o = (omega arith, omega arith)
 
     word_kind_lem : (o : TextTest) → (4 < word_kind o) × (word_kind o ≤ 6)
     word_kind_lem equal = (omega arith, omega arith)
@@ -159,9 +152,7 @@ module _ (bundle : ℕ) where
 
     numeric_kind_lem : (o : NumericTest) → (8 < numeric_kind o) × (numeric_kind o ≤ 12)
     numeric_kind_lem less = (omega arith, omega arith)
-    numeric_kind_lem less_or_equal = (omega arith, omega arith)
-    numeric_kind_lem greater = (omega arith, omega arith)
-    numeric_kind_lem greater_or_equal = (omega arith, omega arith)
+    numeric_kind_lem o = (omega arith, omega arith)
 
     new_test :
         (x : Test) (ρ : Rows)
@@ -243,11 +234,8 @@ module _ (bundle : ℕ) where
 
     -- properties
     abbrev ReadyValue : Rows → Value → Type 0
-    ReadyValue ρ (word_value a) = Unit {0}
-    ReadyValue ρ (quoted a) = Unit {0}
-    ReadyValue ρ (colored c) = Unit {0}
-    ReadyValue ρ (numbers xs) = Unit {0}
     ReadyValue ρ (width_delta x) = ρ.tally.number < ρ.tally.numbers
+    ReadyValue ρ u = Unit {0}
 
     new_word :
         (name : Range) (a : Name) (pre : List ℕ) (n m : ℕ) (z : List ℕ)
@@ -375,11 +363,9 @@ module _ (bundle : ℕ) where
 
     good_value_lem : (u : Value) (ρ : Rows) → Good ρ → Sound (add_rows ρ (value_entries u)) × ReadyValue (add_rows ρ (value_entries u)) u
     unfolding add_rows
-    good_value_lem (word_value a) ρ v = (v.0, tt)
-    good_value_lem (quoted a) ρ v = (v.0, tt)
-    good_value_lem (colored c) ρ v = (v.0, tt)
     good_value_lem (numbers xs) ρ v = (sound_numbers xs ρ v.0, tt)
     good_value_lem (width_delta x) ρ v = let e = v.1 in (sound_number x ρ v.0, omega arith)
+    good_value_lem u ρ v = (v.0, tt)
 
     good_properties : (ps : List Property) (ρ : Rows) → Each (PropertyLies bundle) ps → Good ρ → Good (add_rows ρ (properties_entries ps))
     unfolding add_rows properties_entries

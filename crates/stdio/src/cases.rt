@@ -6,7 +6,7 @@ ghost use Rattle.std.specs.Io.KnownBytes.{Appends, Consumes};
 ghost use Rattle.std.specs.Float.Ieee.{of_bits, to_bits};
 ghost use Rattle.stdio.specs.Cases.{short, word, long, named, Ran, Replayed, piece, entry, are_words, refusal, counted};
 
-use crate::{line, read_full};
+use crate::{line, read_full, zeros};
 use base::{Range, at_or};
 use std::io;
 use std::io::{Read, Write};
@@ -21,7 +21,7 @@ pub fn replay<R: Read, W: Write, F: Fn(&[u8], usize) -> Option<(usize, bool)>>(
     requires forward { (s : _) (at end : ℕ) (agrees : Bool) → at < length s.now → F.post case_at s at (Some (end, agrees)) → (at < end) × (end ≤ length s.now) }
     ensures { OnOk result (Replayed (λ s. s.now) (λ s at r. F.post case_at s at r) (λ b. Consumes (R.remaining from.old) (R.remaining from.new) b) (λ b. (before : _) × Appends before (W.contents out.new) b)) }
 {
-    let mut room = case_buffer();
+    let mut room = zeros::<524288>();
     let n = read_full(from, &mut room)?;
     let cases = &room[..n];
     let t = run_all(
@@ -33,13 +33,6 @@ pub fn replay<R: Read, W: Write, F: Fn(&[u8], usize) -> Option<(usize, bool)>>(
         { case_at(cases, at) },
     )?;
     totals(out, t)
-}
-
-// Room for all cases.
-pub fn case_buffer() -> [u8; 524288]
-    ensures { 524288 ≡ length result }
-{
-    [0; 524288]
 }
 
 // How many cases ran, and how many answers differed.
@@ -64,21 +57,19 @@ pub fn run_all<W: Write, F: Fn(usize) -> Option<(usize, bool)>>(
     let mut run: u64 = 0;
     let mut bad: u64 = 0;
     while at < size {
-        match case_at(at) {
+        at = match case_at(at) {
             None => {
                 line(out, b"broken case", run)?;
                 bad += 1;
-                at = size;
+                size
             }
-            Some((end, true)) => {
-                at = end;
-            }
+            Some((end, true)) => end,
             Some((end, false)) => {
                 line(out, b"mismatch in case", run)?;
                 bad += 1;
-                at = end;
+                end
             }
-        }
+        };
         run += 1;
     }
     Ok(Tally { run, bad })
@@ -144,12 +135,9 @@ pub fn entry_at(s: &[u8], at: usize, entries: usize, i: usize) -> usize
 pub fn words_are(t: &[u32], s: &[u8], at: usize, entries: usize) -> bool
     ensures { result ≡ are_words t.now s.now at entries 0 }
 {
-    for i in 0..t.len() {
-        if t[i] as usize != entry_at(s, at, entries, i) {
-            return false;
-        }
-    }
-    true
+    t.iter()
+        .enumerate()
+        .all(|(i, &w)| w as usize == entry_at(s, at, entries, i))
 }
 
 // Four bytes.

@@ -10,11 +10,11 @@ pub mod cases;
 use std::io;
 use std::io::{Read, Write};
 
-// 65,536 zeros, for an input.
-pub fn large_buffer() -> [u8; 65536]
-    ensures { 65536 ≡ length result }
+// Room for an input or a line. In place, a check would count the zeros one by one.
+pub fn zeros<const N: usize>() -> [u8; N]
+    ensures { N ≡ length result }
 {
-    [0; 65536]
+    [0; N]
 }
 
 // Reads until the buffer is full or the input ends, and returns how many bytes it put at the start of the buffer.

@@ -30,13 +30,9 @@ name_color bundle (Joined a b) = None
 
 -- a colour, or an identifier that names one
 unfoldable pub color_of : Bytes → Option PropertyValue → Option Color
-color_of bundle None = None
-color_of bundle (Some NoValue) = None
 color_of bundle (Some (Identifier n)) = name_color bundle n
-color_of bundle (Some (Text a)) = None
 color_of bundle (Some (Shade c)) = Some c
-color_of bundle (Some (Numbers r)) = None
-color_of bundle (Some (WidthDelta x)) = None
+color_of bundle p = None
 
 -- one number
 unfoldable pub one_of : List Float → Option Float
@@ -45,41 +41,23 @@ one_of (x ∷ []) = Some x
 one_of (x ∷ y ∷ ys) = None
 
 unfoldable pub number_of : List Float → Option PropertyValue → Option Float
-number_of numbers None = None
-number_of numbers (Some NoValue) = None
-number_of numbers (Some (Identifier n)) = None
-number_of numbers (Some (Text a)) = None
-number_of numbers (Some (Shade c)) = None
 number_of numbers (Some (Numbers r)) = one_of (take (r.to - r.from) (drop r.from numbers))
-number_of numbers (Some (WidthDelta x)) = None
+number_of numbers p = None
 
 unfoldable pub delta_of : Option PropertyValue → Option Float
-delta_of None = None
-delta_of (Some NoValue) = None
-delta_of (Some (Identifier n)) = None
-delta_of (Some (Text a)) = None
-delta_of (Some (Shade c)) = None
-delta_of (Some (Numbers r)) = None
 delta_of (Some (WidthDelta x)) = Some x
+delta_of p = None
 
 unfoldable pub dashes_of : Option PropertyValue → Option Range
-dashes_of None = None
-dashes_of (Some NoValue) = None
-dashes_of (Some (Identifier n)) = None
-dashes_of (Some (Text a)) = None
-dashes_of (Some (Shade c)) = None
 dashes_of (Some (Numbers r)) = Some r
-dashes_of (Some (WidthDelta x)) = None
+dashes_of p = None
 
 -- an identifier or a string; a kind that is not known stands for an identifier of no bytes, as where rules are read from tables
 unfoldable pub text_of : Option PropertyValue → Option Name
-text_of None = None
 text_of (Some NoValue) = Some (Plain (record { from = 0; to = 0 }))
 text_of (Some (Identifier n)) = Some n
 text_of (Some (Text a)) = Some (Plain a)
-text_of (Some (Shade c)) = None
-text_of (Some (Numbers r)) = None
-text_of (Some (WidthDelta x)) = None
+text_of p = None
 
 abbrev pub no_range : Range
 no_range = record { from = 0; to = 0 }
@@ -90,13 +68,8 @@ name_range (Plain a) = a
 name_range (Joined a b) = no_range
 
 unfoldable pub word_range : Option PropertyValue → Range
-word_range None = no_range
-word_range (Some NoValue) = no_range
 word_range (Some (Identifier n)) = name_range n
-word_range (Some (Text a)) = no_range
-word_range (Some (Shade c)) = no_range
-word_range (Some (Numbers r)) = no_range
-word_range (Some (WidthDelta x)) = no_range
+word_range p = no_range
 
 abbrev pub word_of : Bytes → Option PropertyValue → Bytes
 word_of bundle p = within (word_range p) bundle

@@ -8,7 +8,7 @@ ghost use Rattle.style.specs.Style.{default_z, casing_multiplier, width_or_zero,
 use base::Range;
 use color::Color;
 use table::{Name, Tables};
-use walk::maps::row_of;
+use walk::maps::{Maps, row_of};
 
 mod get;
 
@@ -118,7 +118,7 @@ pub fn property_map_to_style(
 
 impl<'t, 'n> Row<'t, 'n> {
     // The row of layer i of a table of maps.
-    pub fn at(tables: &'t Tables<'t>, maps: &'n [u32; 4323], i: usize) -> Row<'t, 'n>
+    pub fn at(tables: &'t Tables<'t>, maps: &'n Maps, i: usize) -> Row<'t, 'n>
         ensures of_tables { result.tables.now ≡ tables.now }
         ensures numbers { result.numbers.now ≡ numbers_at maps.now i }
     {

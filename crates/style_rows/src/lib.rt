@@ -26,8 +26,8 @@ pub fn store_layers(
     floats.fill(0.0);
     layers.fill(0);
     for (k, &x) in styled.iter().take(32).enumerate() {
-        store_all(&mut words[..], k * 52, &row_words(x)[..]);
-        store_all(&mut floats[..], k * 6, &row_floats(x)[..]);
+        store_all(words, k * 52, &row_words(x));
+        store_all(floats, k * 6, &row_floats(x));
         layers[k] = layer_number(x.style.layer);
     }
 }
@@ -101,21 +101,17 @@ fn row_words(x: StyledLayer) -> [u64; 52]
 {
     let s = x.style;
     let mut row = [0u64; 52];
-    store_all(&mut row[..], 0, &scalars(x)[..]);
-    store_all(&mut row[..], 11, &color_numbers(s.color)[..]);
-    store_all(&mut row[..], 15, &color_numbers(s.fill_color)[..]);
-    store_all(&mut row[..], 19, &color_numbers(s.background_color)[..]);
-    store_all(&mut row[..], 23, &color_numbers(s.casing_color)[..]);
-    store_all(
-        &mut row[..],
-        27,
-        &color_numbers(text_color(s.text_style))[..],
-    );
-    store_all(&mut row[..], 31, &dash_numbers(s.dashes)[..]);
-    store_all(&mut row[..], 34, &dash_numbers(s.casing_dashes)[..]);
-    store_all(&mut row[..], 37, &text_numbers(s.icon_image)[..]);
-    store_all(&mut row[..], 42, &text_numbers(s.fill_image)[..]);
-    store_all(&mut row[..], 47, &text_numbers(text(s.text_style))[..]);
+    store_all(&mut row, 0, &scalars(x));
+    store_all(&mut row, 11, &color_numbers(s.color));
+    store_all(&mut row, 15, &color_numbers(s.fill_color));
+    store_all(&mut row, 19, &color_numbers(s.background_color));
+    store_all(&mut row, 23, &color_numbers(s.casing_color));
+    store_all(&mut row, 27, &color_numbers(text_color(s.text_style)));
+    store_all(&mut row, 31, &dash_numbers(s.dashes));
+    store_all(&mut row, 34, &dash_numbers(s.casing_dashes));
+    store_all(&mut row, 37, &text_numbers(s.icon_image));
+    store_all(&mut row, 42, &text_numbers(s.fill_image));
+    store_all(&mut row, 47, &text_numbers(text(s.text_style)));
     row
 }
 
@@ -125,7 +121,7 @@ fn scalars(x: StyledLayer) -> [u64; 11]
 {
     let s = x.style;
     [
-        x.selector as u64,
+        u64::from(x.selector),
         has(s.layer),
         flag(s.is_foreground_fill),
         has(s.opacity),
@@ -145,7 +141,7 @@ fn color_numbers(c: Option<Color>) -> [u64; 4]
 {
     match c {
         None => [0, 0, 0, 0],
-        Some(k) => [1, k.r as u64, k.g as u64, k.b as u64],
+        Some(k) => [1, u64::from(k.r), u64::from(k.g), u64::from(k.b)],
     }
 }
 

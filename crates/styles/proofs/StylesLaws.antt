@@ -1,10 +1,10 @@
 -- Laws of styles, one for each way through the code, over plain lists and numbers.
-use Prim.Native.Nat.{ℕ, zero, suc, ◌+◌, ◌*◌, ◌≤◌, ◌<◌}
+use Prim.Native.Nat.{ℕ, ◌+◌, ◌*◌, ◌≤◌, ◌<◌}
 use native.Mathlib.Omega.{arith}
 use native.Mathlib.Numerals.{add-one}
 use mathlib.Core.Path.{◌≡◌, refl, sym, ◌∙◌, ap, ap₂}
 use mathlib.Core.Bool.{Bool, true, false, not, cond}
-use mathlib.Core.List.{List, [], ◌∷◌, ◌++◌, map, append-nil}
+use mathlib.Core.List.{List, [], ◌∷◌, ◌++◌, map, map-append, append-nil}
 use mathlib.Core.Option.{none, some}
 use lib.Ieee.{Float, of_bits, of_int}
 use lib.Dec.{ltb}
@@ -31,6 +31,7 @@ use Rattle.tag_number.specs.Told.{layer_told}
 use Rattle.valid.specs.Valid.{tables_sound}
 use Rattle.valid.specs.declared.Counts.{Counts}
 use Rattle.decode.specs.Decode.{places}
+use Rattle.decode.proofs.Places.{places_on}
 use Rattle.walk.specs.Maps.{walk_of, layer_place}
 use Rattle.walk.specs.Rows.{numbers_at}
 use Rattle.walk.specs.Selectors.{layer_in}
@@ -98,17 +99,6 @@ module _ (bundle : Bytes) (selectors properties : List ℕ) (numbers : List Floa
 
 -- ---- layer by layer
 
-places_on : (a k : ℕ) → places a (suc k) ≡ places a k ++ ((a + k) ∷ [])
-unfolding places
-places_on a zero = let e : a ≡ a + 0 = omega arith in ap (λ x. x ∷ []) e
-places_on a (suc k) =
-    let e : a + 1 + k ≡ a + suc k = omega arith in
-    ap (λ l. a ∷ l) (places_on (a + 1) k ∙ ap (λ x. places (a + 1) k ++ (x ∷ [])) e)
-
-map_on : {A B : Type 0} (f : A → B) (xs ys : List A) → map f (xs ++ ys) ≡ map f xs ++ map f ys
-map_on f [] ys = refl
-map_on f (x ∷ xs) ys = ap (λ l. f x ∷ l) (map_on f xs ys)
-
 module _ (p : ℕ → Bool) (f : ℕ → StyledLayer) where
   -- the styled layers of the first i rows
   abbrev pub styled_of : ℕ → List StyledLayer
@@ -120,7 +110,7 @@ module _ (p : ℕ → Bool) (f : ℕ → StyledLayer) where
       ap styled_of (add-one i)
       ∙ ap (λ l. map f (keep p l)) (places_on 0 i ∙ ap (λ x. places 0 i ++ (x ∷ [])) e)
       ∙ ap (map f) (keep_append p (places 0 i) (i ∷ []))
-      ∙ map_on f (keep p (places 0 i)) (keep p (i ∷ []))
+      ∙ map-append f (keep p (places 0 i)) (keep p (i ∷ []))
 
   styled_left : (i : ℕ) → p i ≡ false → styled_of (i + 1) ≡ styled_of i
   unfolding keep

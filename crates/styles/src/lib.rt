@@ -10,7 +10,7 @@ use parts::{default_width, is_styled, tag_layer};
 use style::{Row, Settings, Style, property_map_to_style};
 use table::Tables;
 use valid::{Counts, judge};
-use walk::maps::{Layers, selector_at};
+use walk::maps::{Layers, Maps, ROW, selector_at};
 use walk::walk_entity;
 
 pub mod parts;
@@ -67,7 +67,7 @@ fn walked_styles(
 ) -> Result<EntityStyles, Refusal>
     ensures { result ≡ walked_styles tables.now.bundle.now tables.now.rules.now tables.now.selectors.now tables.now.tests.now tables.now.properties.now tables.now.numbers.now total zoom settings entity.entry.bytes.now entity.entry.range }
 {
-    let mut maps = [0u32; 4323];
+    let mut maps = [0u32; 33 * ROW];
     let m = walk_entity(tables, total, zoom, entity, ALONE, &mut maps)?;
     let kind = entity.range.kind;
     Ok(filled_layers(tables, &maps, m, kind, tag_layer(entity), settings))
@@ -76,7 +76,7 @@ fn walked_styles(
 // The styles of the first m layers of a table of maps, `*` left out.
 fn filled_layers(
     tables: &Tables,
-    maps: &[u32; 4323],
+    maps: &Maps,
     m: Layers,
     kind: u8,
     layer: Option<i64>,
@@ -94,7 +94,7 @@ fn filled_layers(
         // Lent again, since a row holds its tables at one lifetime.
         let row = Row::at(&*tables, maps, i);
         layers[count] = StyledLayer {
-            selector: selector_at(&maps[..], i),
+            selector: selector_at(maps, i),
             style: property_map_to_style(row, kind, layer, base, settings),
         };
         count += 1;

@@ -12,7 +12,7 @@ use entity::Entity;
 use style::{Row, width_or_zero};
 use table::Tables;
 use walk::layer_place;
-use walk::maps::selector_at;
+use walk::maps::{Maps, selector_at};
 use walk::names::is_layer;
 
 // The tag `layer` of an entity.
@@ -24,17 +24,17 @@ pub fn tag_layer(entity: Entity) -> Option<i64>
 }
 
 // Whether layer i of a table of maps gets a style: all do but `*`.
-pub fn is_styled(tables: &Tables, maps: &[u32; 4323], i: usize) -> bool
+pub fn is_styled(tables: &Tables, maps: &Maps, i: usize) -> bool
     ensures { result ≡ not (same star (layer_in tables.now.bundle.now tables.now.selectors.now (named_by tables.now.bundle.now tables.now.selectors.now maps.now i))) }
 {
-    !is_layer(tables, selector_at(&maps[..], i), b"*")
+    !is_layer(tables, selector_at(maps, i), b"*")
 }
 
 // The width of the default layer among the first n of a table of maps; 0 where it has none, or there is none.
-pub fn default_width(tables: &Tables, maps: &[u32; 4323], n: usize) -> f64
+pub fn default_width(tables: &Tables, maps: &Maps, n: usize) -> f64
     ensures { result ≡ default_width tables.now.bundle.now tables.now.selectors.now tables.now.properties.now tables.now.numbers.now maps.now n }
 {
-    match layer_place(tables, &maps[..], n, b"default") {
+    match layer_place(tables, maps, n, b"default") {
         None => 0.0,
         Some(i) => width_or_zero(Row::at(tables, maps, i).number(b"width")),
     }

@@ -100,10 +100,7 @@ pub fn word_of(t: &[u32], i: usize, j: usize) -> usize
 fn far_word(t: &[u32], i: usize, j: usize) -> usize
     ensures { result ≡ word_at t.now i j }
 {
-    if t.len() / 8 < i {
-        return 0;
-    }
-    if t.len() <= j {
+    if t.len() / 8 < i || t.len() <= j {
         return 0;
     }
     base::word_at(t, i * 8 + j) as usize

@@ -1,67 +1,26 @@
 -- From the parts of a decimal, as the code finds them, to what the theory reads.
-use Prim.Native.Nat.{ℕ, ◌+◌, ◌-◌, ◌^◌, ◌<◌, ◌≤◌}
+use Prim.Native.Nat.{ℕ, ◌+◌, ◌^◌, ◌<◌}
 use native.Mathlib.Omega.{arith}
 use mathlib.Core.Path.{◌≡◌, refl, sym, ◌∙◌, ap, ap₂}
 use mathlib.Core.Logic.{inl}
-use mathlib.Core.Bool.{Bool, true, false}
-use mathlib.Core.List.{[], ◌∷◌, ◌++◌, map}
+use mathlib.Core.Bool.{Bool, false}
+use mathlib.Core.List.{[], ◌∷◌, ◌++◌}
 use mathlib.Core.Option.{Option as Maybe, none, some}
-use lib.Dec.{eqb}
-use lib.ListN.{length, get_or, take, drop}
-use borrow.Author.Tests.{eq-eqb, ne_eqb, eqb-false}
-use Rattle.std.proofs.lemmas.List.{take_rest}
+use lib.ListN.{length}
 use lib.IntN.{ℤ, pos, ◌-ℤ◌}
-use lib.Ieee.{Float, nan, inf}
-use Rattle.base.specs.Bytes.{Bytes, ascii, same}
+use lib.Ieee.{Float, nan, binary64, of_bits, div}
+use Rattle.base.specs.Bytes.{Bytes}
 use Rattle.base.specs.Choice.{pick, by-test}
-use Rattle.cascade.specs.Number.{is_e, lower_case, negative, unsigned, digits, after_digits, spelt, with_sign, Decimal, decimals, after_decimals, exponent_of, decimal_from, decimal_of, value_of, unsigned_number, tag_number}
+use Rattle.cascade.specs.Number.{is_e, negative, unsigned, digits, after_digits, spelt, with_sign, Decimal, decimals, after_decimals, exponent_of, decimal_from, decimal_of, value_of, unsigned_number, tag_number}
 use Rattle.tag_number.specs.Grown.{grown_from, whole_text, written_power, power_of, decimal}
 use Rattle.tag_number.specs.Told.{told}
 use Rattle.tag_number.specs.declared.NumberError.{NumberError}
 use Rattle.tag_number.specs.declared.NumberError.TheVariants.{Malformed}
 use Rattle.tag_number.proofs.Saturate.{Near, near_spelt, near_both, near_value, whole_some, whole_not}
-use Rattle.std.specs.Prelude.{Option, Some, None, Result, Ok, Err}
+use Rattle.std.specs.Prelude.{Option, Some, None, Result, Err}
 use Rattle.base.proofs.Options.{none_some, some2_first, some2_second}
 
 -- ---- the exponent
-
-module _ (v t : Bytes) (e : t ≡ unsigned v) (w : Bool) (q : w ≡ whole_text t) where
-  pub written_none : w ≡ false → None ≡ written_power v
-  unfolding written_power pick
-  written_none h = rw (sym e, sym q, h)
-
-  pub written_some : (m : Bool) (n : ℕ) → w ≡ true → m ≡ negative v → n ≡ grown_from 0 t → Some (m, n) ≡ written_power v
-  unfolding written_power pick
-  written_some m n h p u = rw (sym e, sym q, h) (ap₂ (λ (m : Bool) (n : ℕ). Some (m, n)) p u)
-
-pub power_none : (v : Bytes) → length v < 1 → Some (false, 0) ≡ power_of v
-unfolding power_of
-power_none [] h = refl
-power_none (b ∷ v) h = absurd (omega arith)
-
-module _ (v : Bytes) (l : 1 ≤ length v) where
-  pub power_not : (get_or v 0 0 ≡ 101 → ⊥) → (get_or v 0 0 ≡ 69 → ⊥) → None ≡ power_of v
-  unfolding power_of pick
-  power_not h k = go v l h k
-    where
-      go : (v : Bytes) → 1 ≤ length v → (get_or v 0 0 ≡ 101 → ⊥) → (get_or v 0 0 ≡ 69 → ⊥) → None ≡ power_of v
-      go [] l h k = absurd (omega arith)
-      go (b ∷ v) l h k = rw (ne_eqb b 101 h, ne_eqb b 69 k)
-
-  pub power_written :
-      (r : Option (Bool × ℕ))
-      → ((get_or v 0 0 ≡ 101 → ⊥) → get_or v 0 0 ≡ 69)
-      → r ≡ written_power (take (length v - 1) (drop 1 v))
-      → r ≡ power_of v
-  unfolding power_of pick
-  power_written r h q = q ∙ ap written_power (take_rest v 1) ∙ go v l h
-    where
-      go : (v : Bytes) → 1 ≤ length v → ((get_or v 0 0 ≡ 101 → ⊥) → get_or v 0 0 ≡ 69) → written_power (drop 1 v) ≡ power_of v
-      go [] l h = absurd (omega arith)
-      go (b ∷ v) l h =
-          by-test (eqb b 101)
-          (λ t. rw t)
-          (λ t. rw (t, eq-eqb b 69 (h (eqb-false b 101 t))))
 
 exponent_none : (x : Bytes) → power_of x ≡ None → exponent_of x ≡ none
 unfolding power_of exponent_of written_power pick
@@ -164,48 +123,10 @@ module _
 
 -- ---- words
 
-module _ (m : Bool) (t : Bytes) where
-  abbrev lowered : Bytes
-  lowered = map lower_case t
-
-  pub word_inf : (b : Bool) (x : Float) → b ≡ same lowered (ascii "inf") → b ≡ true → x ≡ inf m → Ok x ≡ told (unsigned_number m t)
-  unfolding unsigned_number told
-  word_inf b x e h q = let g : same lowered (ascii "inf") ≡ true = sym e ∙ h in rw g (ap Ok q)
-
-  module _ (a : Bool) (A : a ≡ same lowered (ascii "inf")) (f : a ≡ false) where
-    pub word_infinity :
-        (b : Bool) (x : Float)
-        → b ≡ same lowered (ascii "infinity")
-        → b ≡ true
-        → x ≡ inf m
-        → Ok x ≡ told (unsigned_number m t)
-    unfolding unsigned_number told
-    word_infinity b x e h q =
-        let g : same lowered (ascii "infinity") ≡ true = sym e ∙ h in
-        let k : same lowered (ascii "inf") ≡ false = sym A ∙ f in
-        rw (k, g) (ap Ok q)
-
-    module _ (c : Bool) (C : c ≡ same lowered (ascii "infinity")) (i : c ≡ false) where
-      pub word_nan : (b : Bool) → b ≡ same lowered (ascii "nan") → b ≡ true → Ok nan ≡ told (unsigned_number m t)
-      unfolding unsigned_number told
-      word_nan b e h =
-          let g : same lowered (ascii "nan") ≡ true = sym e ∙ h in
-          let k : same lowered (ascii "inf") ≡ false = sym A ∙ f in
-          let j : same lowered (ascii "infinity") ≡ false = sym C ∙ i in
-          rw (k, j, g)
-
-      pub word_not :
-          (b : Bool) (r : Result Float NumberError)
-          → b ≡ same lowered (ascii "nan")
-          → b ≡ false
-          → r ≡ told (value_of (decimal_of m t))
-          → r ≡ told (unsigned_number m t)
-      unfolding unsigned_number
-      word_not b r e h q =
-          let g : same lowered (ascii "nan") ≡ false = sym e ∙ h in
-          let k : same lowered (ascii "inf") ≡ false = sym A ∙ f in
-          let j : same lowered (ascii "infinity") ≡ false = sym C ∙ i in
-          rw (k, j, g) q
+-- the number that the code's constant is
+pub nan_read : of_bits binary64 9221120237041090560 ≡ nan
+unfolding of_bits div
+nan_read = refl
 
 pub number_is :
     (v u : Bytes) (m : Bool) (r : Result Float NumberError)

@@ -7,10 +7,7 @@ use mathlib.Core.Bool.{Bool, true, false}
 use mathlib.Core.List.{[], ◌∷◌, ◌++◌, foldl, foldl-append}
 use mathlib.Core.Option.{none, some}
 use lib.Dec.{ltb}
-use lib.ListN.{length, get_or, drop, drop_of_length-le}
-use lib.Seq.{drop-cons}
 use lib.IntN.{ℤ, pos, neg_ℤ, ◌-ℤ◌}
-use native.Mathlib.Numerals.{add-one}
 use borrow.Author.Tests.{le-ltb, lt-leb, ltb-false, ne_eqb}
 use Rattle.base.specs.Bytes.{Bytes}
 use Rattle.base.specs.Choice.{pick, by-test, clash}
@@ -48,20 +45,6 @@ unfolding grown_from spelt
 near_both ds fs =
     rw (foldl-append (λ (n b : ℕ). n * 10 + (b - 48)) 0 ds fs)
     (near_from fs (foldl grown 0 ds) (foldl (λ n b. n * 10 + (b - 48)) 0 ds) (near_from ds 0 0 (inl refl)))
-
--- ---- one digit after the other
-
-pub spell_end : (s : Bytes) (n i : ℕ) → length s ≤ i → n ≡ grown_from n (drop i s)
-unfolding grown_from
-spell_end s n i h = rw (drop_of_length-le s h)
-
-pub spell_more :
-    (s : Bytes) (n i m : ℕ)
-    → i < length s
-    → m ≡ grown n (get_or s i 0)
-    → grown_from m (drop (i + 1) s) ≡ grown_from n (drop i s)
-unfolding grown_from
-spell_more s n i m h e = rw (e, add-one, drop-cons s i 0 h)
 
 -- ---- layers
 

@@ -5,13 +5,11 @@ use native.Mathlib.Omega.{arith}
 use mathlib.Core.Path.{◌≡◌, refl, sym, ◌∙◌, ap}
 use mathlib.Core.Bool.{Bool, true, false}
 use mathlib.Core.List.{List, [], ◌∷◌}
-use mathlib.Core.Option.{some}
 use lib.ListN.{get_or}
 use lib.IntN.{ℤ, pos, negsuc, neg_ℤ, ◌-ℤ◌}
-use lib.Ieee.{Float, nan, binary64, mul, div}
-use borrow.Author.Tests.{lt-ltb, le-ltb, le-leb, lt-leb, eq-eqb, ne_eqb}
-use Rattle.cascade.specs.Number.{with_sign, whole, signed, scaled, value_of}
-use Rattle.tag_number.specs.Grown.{decimal}
+use lib.Ieee.{Float, nan, binary64, div}
+use borrow.Author.Tests.{lt-ltb, le-ltb, le-leb, lt-leb}
+use Rattle.cascade.specs.Number.{with_sign, whole, signed, scaled}
 use Rattle.tag_number.specs.Told.{told}
 use Rattle.tag_number.specs.declared.NumberError.{NumberError}
 use Rattle.tag_number.specs.declared.NumberError.TheVariants.{OutOfRange}
@@ -48,19 +46,6 @@ power_below (suc p) zero = let e : suc p + 0 ≡ suc p = omega arith in rw (lt-l
 power_below (suc p) (suc n) = let e : suc p + suc n ≡ suc (suc (p + n)) = omega arith in rw e
 
 module _ (s : Bool) (d : ℕ) where
-  pub multiplied :
-      (k : ℕ) (x y : Float)
-      → k ≤ 22
-      → x ≡ signed s d
-      → y ≡ whole (10 ^ k)
-      → Ok (mul binary64 x y) ≡ told (scaled s d (pos k))
-  unfolding scaled told
-  multiplied k x y h p q = rw (le-leb k 22 h) (ap Ok (ap (λ (z : Float). mul binary64 z y) p ∙ ap (mul binary64 (signed s d)) q))
-
-  pub multiplied_out : (k : ℕ) → 22 < k → Err OutOfRange ≡ told (scaled s d (pos k))
-  unfolding scaled told
-  multiplied_out k h = rw (lt-leb k 22 h)
-
   pub divided :
       (k : ℕ) (x y : Float)
       → (k ≡ 0 → ⊥)
@@ -105,17 +90,3 @@ module _ (s : Bool) (d : ℕ) where
 
     pub scaled_far : t ≡ true → 22 < p → Err OutOfRange ≡ told (scaled s d (with_sign t p -ℤ pos n))
     scaled_far h l = scaled_below (Err OutOfRange) h (divided_out (p + n) (omega arith))
-
-  -- the digits
-  module _ (e : ℤ) where
-    pub value_zero : (x : Float) → d ≡ 0 → x ≡ signed s 0 → Ok x ≡ told (value_of (some (decimal s d e)))
-    unfolding value_of told
-    value_zero x h q = rw (eq-eqb d 0 h) (ap Ok q)
-
-    pub value_scaled : (r : Result Float NumberError) → (d ≡ 0 → ⊥) → d < 2 ^ 53 → r ≡ told (scaled s d e) → r ≡ told (value_of (some (decimal s d e)))
-    unfolding value_of
-    value_scaled r h l q = rw (ne_eqb d 0 h, lt-ltb d (2 ^ 53) l) q
-
-    pub value_out : (d ≡ 0 → ⊥) → 2 ^ 53 ≤ d → Err OutOfRange ≡ told (value_of (some (decimal s d e)))
-    unfolding value_of told
-    value_out h l = rw (ne_eqb d 0 h, le-ltb d (2 ^ 53) l)

@@ -1,12 +1,11 @@
--- Signs, digits, dots and words of a text, as the code goes through them.
-use Prim.Native.Nat.{ℕ, ◌+◌, ◌-◌}
+-- Digits and words of a text, as the code goes through them.
+use Prim.Native.Nat.{ℕ, ◌+◌}
 use native.Mathlib.Omega.{arith}
 use mathlib.Core.Path.{◌≡◌, refl, sym, ◌∙◌, ap}
 use mathlib.Core.Bool.{Bool, true, false, not}
 use mathlib.Core.List.{[], ◌∷◌, ◌++◌, map}
 use lib.Dec.{eqb, ltb}
-use Rattle.std.proofs.lemmas.List.{take_rest}
-use lib.ListN.{length, get_or, take, drop, length-append}
+use lib.ListN.{length, take, drop, length-append}
 use lib.Seq.{take-append_seam, drop-append_seam}
 use borrow.Author.Tests.{eq-eqb, ne_eqb, ltb-false, ltb-true, le-leb, lt-leb}
 use Rattle.base.specs.Bytes.{Bytes, same}
@@ -18,67 +17,8 @@ use Rattle.std.specs.Char.{to_ascii_lowercase}
 use mathlib.Core.Logic.{◌↔◌}
 use Rattle.std.specs.List.{prefix_len}
 use Rattle.std.specs.Prelude.{position, unwrap_or}
-use Rattle.cascade.specs.Number.{is_digit, lower_case, negative, unsigned, digits, after_digits, decimals, after_decimals}
+use Rattle.cascade.specs.Number.{is_digit, lower_case, digits, after_digits}
 use Rattle.tag_number.specs.Grown.{whole_text}
-
--- ---- signs and dots
-
-pub minus_first : (s : Bytes) → get_or s 0 0 ≡ 45 → true ≡ negative s
-unfolding negative
-minus_first [] h = absurd (omega arith)
-minus_first (b ∷ s) h = sym (eq-eqb b 45 h)
-
-pub no_minus : (s : Bytes) → (get_or s 0 0 ≡ 45 → ⊥) → false ≡ negative s
-unfolding negative
-no_minus [] h = refl
-no_minus (b ∷ s) h = sym (ne_eqb b 45 h)
-
-pub after_minus : (s : Bytes) → get_or s 0 0 ≡ 45 → take (length s - 1) (drop 1 s) ≡ unsigned s
-unfolding unsigned
-after_minus s h = take_rest s 1 ∙ go s h
-  where
-    go : (s : Bytes) → get_or s 0 0 ≡ 45 → drop 1 s ≡ unsigned s
-    go [] q = refl
-    go (x ∷ s) q = rw (eq-eqb x 45 q)
-
-pub after_plus : (s : Bytes) → get_or s 0 0 ≡ 43 → take (length s - 1) (drop 1 s) ≡ unsigned s
-unfolding unsigned
-after_plus s h = take_rest s 1 ∙ go s h
-  where
-    go : (s : Bytes) → get_or s 0 0 ≡ 43 → drop 1 s ≡ unsigned s
-    go [] q = refl
-    go (x ∷ s) q = rw (ne_eqb x 45 (λ z. omega arith), eq-eqb x 43 q)
-
-pub no_sign : (s : Bytes) → (get_or s 0 0 ≡ 45 → ⊥) → (get_or s 0 0 ≡ 43 → ⊥) → s ≡ unsigned s
-unfolding unsigned
-no_sign [] h k = refl
-no_sign (b ∷ s) h k = rw (ne_eqb b 45 h, ne_eqb b 43 k)
-
-pub dot_digits : (s : Bytes) → get_or s 0 0 ≡ 46 → digits (take (length s - 1) (drop 1 s)) ≡ decimals s
-unfolding digits decimals
-dot_digits s h = ap digits (take_rest s 1) ∙ go s h
-  where
-    go : (s : Bytes) → get_or s 0 0 ≡ 46 → digits (drop 1 s) ≡ decimals s
-    go [] q = refl
-    go (x ∷ s) q = rw (eq-eqb x 46 q)
-
-pub dot_after : (s : Bytes) → get_or s 0 0 ≡ 46 → after_digits (take (length s - 1) (drop 1 s)) ≡ after_decimals s
-unfolding after_digits after_decimals
-dot_after s h = ap after_digits (take_rest s 1) ∙ go s h
-  where
-    go : (s : Bytes) → get_or s 0 0 ≡ 46 → after_digits (drop 1 s) ≡ after_decimals s
-    go [] q = refl
-    go (x ∷ s) q = rw (eq-eqb x 46 q)
-
-pub no_dot_digits : (s : Bytes) → (get_or s 0 0 ≡ 46 → ⊥) → [] ≡ decimals s
-unfolding decimals
-no_dot_digits [] h = refl
-no_dot_digits (b ∷ s) h = rw (ne_eqb b 46 h)
-
-pub no_dot_after : (s : Bytes) → (get_or s 0 0 ≡ 46 → ⊥) → s ≡ after_decimals s
-unfolding after_decimals
-no_dot_after [] h = refl
-no_dot_after (b ∷ s) h = rw (ne_eqb b 46 h)
 
 -- ---- digits
 

@@ -44,6 +44,7 @@ const TENS: [f64; 23] = [
 ];
 
 // The number that a tag's value spells, as Rust reads an f64, where one operation on exact operands gives it.
+#[tactic(auto, unfolding(cascade::specs::Number::tag_number))]
 pub fn tag_number(v: &[u8]) -> Result<f64, NumberError>
     ensures { result ≡ told (tag_number v.now) }
 {
@@ -73,6 +74,7 @@ fn layer_of(minus: bool, n: u64) -> Option<i64>
 }
 
 // What stands behind the sign: a word or a decimal.
+#[tactic(auto, using(crate::proofs::Decimals::nan_read), unfolding(cascade::specs::Number::unsigned_number, crate::specs::Told::told))]
 fn unsigned_number(t: &[u8], minus: bool) -> Result<f64, NumberError>
     ensures { result ≡ told (unsigned_number minus t.now) }
 {
@@ -109,9 +111,7 @@ fn decimal_number(t: &[u8], minus: bool) -> Result<f64, NumberError>
 {
     let (ds, r) = split_digits(t);
     let (fs, e) = split_decimals(r);
-    let Some((down, p)) = power_of(e) else {
-        return Err(NumberError::Malformed);
-    };
+    let (down, p) = power_of(e).ok_or(NumberError::Malformed)?;
     let n = fs.len();
     if ds.len() + n == 0 {
         return Err(NumberError::Malformed);
@@ -128,6 +128,7 @@ struct Significand {
 }
 
 // The number of digits d and the exponent ± p less n decimals.
+#[tactic(auto, unfolding(cascade::specs::Number::value_of, crate::specs::Told::told))]
 fn value_of(minus: bool, d: u64, down: bool, p: u64, n: usize) -> Result<f64, NumberError>
     requires { n < 2 ^ 63 }
     ensures { result ≡ told (value_of (some (decimal minus d (with_sign down p -ℤ pos n)))) }
@@ -159,6 +160,7 @@ fn scale(x: Significand, down: bool, p: u64, n: u64) -> Result<f64, NumberError>
 }
 
 // One multiplication of exact operands.
+#[tactic(auto, unfolding(cascade::specs::Number::scaled, crate::specs::Told::told))]
 fn multiply(x: Significand, k: u64) -> Result<f64, NumberError>
     ensures { result ≡ told (scaled x.minus x.d (pos k)) }
 {
@@ -198,6 +200,7 @@ fn with_sign(x: Significand) -> f64
 }
 
 // Whether a minus stands first, and what follows an optional sign.
+#[tactic(auto, unfolding(cascade::specs::Number::negative, cascade::specs::Number::unsigned))]
 fn split_sign(v: &[u8]) -> (bool, &[u8])
     ensures minus { result.0 ≡ negative v.now }
     ensures rest { result.1.now ≡ unsigned v.now }
@@ -231,6 +234,7 @@ fn split_digits(v: &[u8]) -> (&[u8], &[u8])
 }
 
 // The digits behind a dot, and what follows them.
+#[tactic(auto, unfolding(cascade::specs::Number::decimals, cascade::specs::Number::after_decimals))]
 fn split_decimals(v: &[u8]) -> (&[u8], &[u8])
     ensures first { result.0.now ≡ decimals v.now }
     ensures rest { result.1.now ≡ after_decimals v.now }
@@ -245,13 +249,11 @@ fn split_decimals(v: &[u8]) -> (&[u8], &[u8])
 fn is_whole_text(v: &[u8]) -> bool
     ensures { result ≡ whole_text v.now }
 {
-    if v.len() == 0 {
-        return false;
-    }
-    digit_count(v) == v.len()
+    !v.is_empty() && digit_count(v) == v.len()
 }
 
 // The exponent that a text is.
+#[tactic(auto, unfolding(base::specs::Choice::pick, crate::specs::Grown::power_of))]
 fn power_of(v: &[u8]) -> Option<(bool, u64)>
     ensures { result ≡ power_of v.now }
 {
@@ -263,35 +265,30 @@ fn power_of(v: &[u8]) -> Option<(bool, u64)>
 }
 
 // The exponent behind its letter.
+#[tactic(auto, unfolding(base::specs::Choice::pick, crate::specs::Grown::written_power))]
 fn written_power(v: &[u8]) -> Option<(bool, u64)>
     ensures { result ≡ written_power v.now }
 {
     let (minus, t) = split_sign(v);
-    if is_whole_text(t) {
-        return Some((minus, spell(t, 0)));
-    }
-    None
+    is_whole_text(t).then_some((minus, spell(t, 0)))
 }
 
 // The whole number that digits spell behind a number, as far as it is needed.
 fn spell(v: &[u8], start: u64) -> u64
     ensures { result ≡ grown_from start v.now }
 {
-    let mut n = start;
-    for &b in v {
-        n = grow(n, b);
-    }
-    n
+    v.iter().fold(start, |n, &b| grow(n, b))
 }
 
 // A number with one digit more; where there may be no room for it, the largest.
+#[tactic(auto, unfolding(base::specs::Choice::pick, crate::specs::Grown::grown))]
 fn grow(n: u64, b: u8) -> u64
     ensures { result ≡ grown n b }
 {
     if n < 1844674407370955140 {
         return n * 10 + digit_of(b);
     }
-    18446744073709551615
+    u64::MAX
 }
 
 fn digit_of(b: u8) -> u64

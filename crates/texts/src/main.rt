@@ -9,7 +9,7 @@ use std::io;
 use std::io::Write;
 
 fn main(rt: HostRuntime) -> io::Result<()> {
-    let mut input = stdio::large_buffer();
+    let mut input = stdio::zeros::<65536>();
     let n = stdio::read_full(&mut rt.stdin(), &mut input)?;
     print_texts(&mut rt.stdout(), &input[..n])
 }

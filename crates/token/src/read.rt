@@ -12,6 +12,7 @@ use token_number::read_number;
 use token_zoom::{read_color, read_zoom_range};
 
 // The token that the character ch at the place idx begins; c is behind it.
+#[tactic(auto, unfolding(crate::specs::Read::read_token, base::specs::Option::on_option))]
 pub fn read_token(s: &[u8], idx: usize, ch: u32, c: Cursor) -> Reading
     ensures { result ≡ read_token s.now idx ch c }
 {
@@ -32,6 +33,7 @@ fn read_pair(s: &[u8], ch: u32, c: Cursor) -> Option<(Token, Cursor)>
 }
 
 // The same, of a character that begins no sign of two letters.
+#[tactic(auto, unfolding(crate::specs::Read::read_single, base::specs::Option::on_option))]
 fn read_single(s: &[u8], idx: usize, ch: u32, c: Cursor) -> Reading
     ensures { result ≡ read_single s.now idx ch c }
 {
@@ -69,6 +71,7 @@ fn starts_number(ch: u32) -> bool
     matches!(ch, 43 | 46 | 48..=57)
 }
 
+#[tactic(auto, unfolding(base::specs::Choice::pick, crate::specs::Read::read_other))]
 fn read_other(s: &[u8], idx: usize, ch: u32, c: Cursor) -> Reading
     ensures { result ≡ read_other s.now idx ch c }
 {
@@ -104,6 +107,7 @@ fn read_at_directive(s: &[u8], c: Cursor) -> Reading
 }
 
 // What the word from a place up to c stands for.
+#[tactic(auto, unfolding(base::specs::Choice::pick, crate::specs::Read::read_directive))]
 fn read_directive(s: &[u8], from: usize, c: Cursor) -> Reading
     ensures { result ≡ read_directive s.now from c }
 {
@@ -139,6 +143,7 @@ fn read_import(s: &[u8], c: Cursor) -> Reading
     }
 }
 
+#[tactic(auto, unfolding(crate::specs::Read::identifier_end, crate::specs::Read::read_identifier))]
 fn read_identifier(s: &[u8], from: usize, c: Cursor) -> Reading
     ensures { result ≡ read_identifier s.now from c }
 {
@@ -162,6 +167,7 @@ fn class_end<F: Fn(u32) -> bool>(s: &[u8], c: Cursor, goes_on: F) -> Cursor
     d
 }
 
+#[tactic(auto, unfolding(crate::specs::Read::read_string, base::specs::Option::on_result))]
 fn read_string(s: &[u8], c: Cursor) -> Reading
     ensures { result ≡ read_string s.now c }
 {

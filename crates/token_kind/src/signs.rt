@@ -4,8 +4,7 @@ ghost use Rattle.token_kind.specs.Signs.{is_pair, place_of_pair, sign_of_pair, g
 
 use crate::Token;
 
-// != <= >= =~ ::
-const TWO_LETTER: [[u8; 2]; 5] = [[33, 61], [60, 61], [62, 61], [61, 126], [58, 58]];
+const TWO_LETTER: [[u8; 2]; 5] = [*b"!=", *b"<=", *b">=", *b"=~", *b"::"];
 
 pub fn get_two_char_simple_token(fst: u32, snd: u32) -> Option<Token>
     ensures { result ≡ get_two_char_simple_token fst snd }
@@ -20,12 +19,14 @@ fn place_of_pair(fst: u32, snd: u32) -> Option<usize>
     TWO_LETTER.iter().position(|p| is_pair(*p, fst, snd))
 }
 
+#[tactic(auto, unfolding(crate::specs::Signs::is_pair, base::specs::Choice::pick))]
 fn is_pair(p: [u8; 2], fst: u32, snd: u32) -> bool
     ensures { result ≡ is_pair fst snd p }
 {
-    p[0] as u32 == fst && p[1] as u32 == snd
+    u32::from(p[0]) == fst && u32::from(p[1]) == snd
 }
 
+#[tactic(auto, unfolding(crate::specs::Signs::sign_of_pair, base::specs::Choice::pick))]
 fn sign_of_pair(i: usize) -> Option<Token>
     ensures { result ≡ sign_of_pair i }
 {
@@ -39,6 +40,7 @@ fn sign_of_pair(i: usize) -> Option<Token>
     }
 }
 
+#[tactic(auto, unfolding(base::specs::Choice::pick, crate::specs::Signs::first_letter, crate::specs::Signs::get_one_char_simple_token))]
 pub fn get_one_char_simple_token(ch: u32) -> Option<Token>
     ensures { result ≡ get_one_char_simple_token ch }
 {

@@ -7,11 +7,12 @@ use lib.Dec.{eqb}
 use lib.ListN.{length}
 use Rattle.base.proofs.Options.{split_option, split_option2, split_result2}
 use Rattle.base.specs.Bytes.{Bytes, ascii, same, within}
-use Rattle.base.specs.Choice.{pick, pick_split}
+use Rattle.base.specs.Choice.{pick, pick_split, different}
 use Rattle.base.specs.Turns.{Turn, more, done, turns}
 use Rattle.base.specs.declared.Range.{Range}
 use Rattle.base.proofs.Loops.{Kept, turns_keep}
 use Rattle.space.specs.Space.{is_white_space}
+use Rattle.color.specs.declared.Color.{Color as Rgb}
 use Rattle.cursor.specs.Blank.{next_significant_char}
 use Rattle.cursor.specs.Class.{in_span, can_be_in_at_directive, can_start_identifier, can_continue_identifier, to_digit}
 use Rattle.cursor.specs.Cursor.{start, next_char}
@@ -49,6 +50,7 @@ use Rattle.token.specs.declared.Step.{Step}
 use Rattle.token.specs.declared.Step.TheVariants.{End, Took}
 use Rattle.token_kind.specs.declared.LexerError.{LexerError}
 use Rattle.token_kind.specs.declared.Token.{Token}
+use Rattle.token_kind.specs.declared.Token.TheVariants.{Color}
 use Rattle.token_zoom.specs.declared.Hex.{Hex}
 use Rattle.token_zoom.proofs.Digits.{digit_at}
 use Rattle.std.specs.Prelude.{Option, Some, None, is_none, ◌&&◌, Result, Ok, Err}
@@ -85,37 +87,37 @@ reads_more from h (Err e) w =
     record { place = w.place; reach = within_more h w.reach; on_line = w.on_line; on_character = w.on_character }
 reads_more from h (Ok (t, d)) w = record { reach = reach_more h w.reach; inside = w.inside }
 
--- signs have no range
-abbrev Bare : Option Token → Type 0
+-- signs have no range, and are no colours
+abbrev pub Bare : Option Token → Type 0
 Bare None = Unit {0}
-Bare (Some t) = (from to : ℕ) → Inside from to t
+Bare (Some t) = ((from to : ℕ) → Inside from to t) × ((x : Rgb) → t ≡ Color x → ⊥)
 
-two_bare : (a b : ℕ) → Bare (get_two_char_simple_token a b)
+pub two_bare : (a b : ℕ) → Bare (get_two_char_simple_token a b)
 unfolding get_two_char_simple_token first_pair
 two_bare a b =
-    pick_split Bare _ _ _ (λ t x y. tt) λ t.
-    pick_split Bare _ _ _ (λ t x y. tt) λ t.
-    pick_split Bare _ _ _ (λ t x y. tt) λ t.
-    pick_split Bare _ _ _ (λ t x y. tt) λ t.
-    pick_split Bare _ _ _ (λ t x y. tt) λ t. tt
+    pick_split Bare _ _ _ (λ t. (λ x y. tt, λ x e. different cc)) λ t.
+    pick_split Bare _ _ _ (λ t. (λ x y. tt, λ x e. different cc)) λ t.
+    pick_split Bare _ _ _ (λ t. (λ x y. tt, λ x e. different cc)) λ t.
+    pick_split Bare _ _ _ (λ t. (λ x y. tt, λ x e. different cc)) λ t.
+    pick_split Bare _ _ _ (λ t. (λ x y. tt, λ x e. different cc)) λ t. tt
 
-one_bare : (k : ℕ) → Bare (get_one_char_simple_token k)
+pub one_bare : (k : ℕ) → Bare (get_one_char_simple_token k)
 unfolding get_one_char_simple_token first_letter
 one_bare k =
-    pick_split Bare _ _ _ (λ t x y. tt) λ t.
-    pick_split Bare _ _ _ (λ t x y. tt) λ t.
-    pick_split Bare _ _ _ (λ t x y. tt) λ t.
-    pick_split Bare _ _ _ (λ t x y. tt) λ t.
-    pick_split Bare _ _ _ (λ t x y. tt) λ t.
-    pick_split Bare _ _ _ (λ t x y. tt) λ t.
-    pick_split Bare _ _ _ (λ t x y. tt) λ t.
-    pick_split Bare _ _ _ (λ t x y. tt) λ t.
-    pick_split Bare _ _ _ (λ t x y. tt) λ t.
-    pick_split Bare _ _ _ (λ t x y. tt) λ t.
-    pick_split Bare _ _ _ (λ t x y. tt) λ t.
-    pick_split Bare _ _ _ (λ t x y. tt) λ t.
-    pick_split Bare _ _ _ (λ t x y. tt) λ t.
-    pick_split Bare _ _ _ (λ t x y. tt) λ t. tt
+    pick_split Bare _ _ _ (λ t. (λ x y. tt, λ x e. different cc)) λ t.
+    pick_split Bare _ _ _ (λ t. (λ x y. tt, λ x e. different cc)) λ t.
+    pick_split Bare _ _ _ (λ t. (λ x y. tt, λ x e. different cc)) λ t.
+    pick_split Bare _ _ _ (λ t. (λ x y. tt, λ x e. different cc)) λ t.
+    pick_split Bare _ _ _ (λ t. (λ x y. tt, λ x e. different cc)) λ t.
+    pick_split Bare _ _ _ (λ t. (λ x y. tt, λ x e. different cc)) λ t.
+    pick_split Bare _ _ _ (λ t. (λ x y. tt, λ x e. different cc)) λ t.
+    pick_split Bare _ _ _ (λ t. (λ x y. tt, λ x e. different cc)) λ t.
+    pick_split Bare _ _ _ (λ t. (λ x y. tt, λ x e. different cc)) λ t.
+    pick_split Bare _ _ _ (λ t. (λ x y. tt, λ x e. different cc)) λ t.
+    pick_split Bare _ _ _ (λ t. (λ x y. tt, λ x e. different cc)) λ t.
+    pick_split Bare _ _ _ (λ t. (λ x y. tt, λ x e. different cc)) λ t.
+    pick_split Bare _ _ _ (λ t. (λ x y. tt, λ x e. different cc)) λ t.
+    pick_split Bare _ _ _ (λ t. (λ x y. tt, λ x e. different cc)) λ t. tt
 
 -- a loop that goes on while characters fit
 module _ (s : Bytes) (c : Cursor) (f : ℕ → Bool) where
@@ -391,7 +393,7 @@ reads_single : (s : Bytes) (from ch : ℕ) (c : Cursor) → from ≤ c.at → Re
 unfolding read_single
 reads_single s from ch c h =
     split_option (Reads s c from) (get_one_char_simple_token ch) _ _ (λ q. reads_long s from ch c h) λ t q.
-    record { reach = here; inside = subst Bare q (one_bare ch) from c.at }
+    record { reach = here; inside = (subst Bare q (one_bare ch)).0 from c.at }
 
 abbrev Paired : Bytes → Cursor → ℕ → Option (Token × Cursor) → Type 0
 Paired s c from None = Unit {0}
@@ -402,7 +404,7 @@ unfolding read_pair
 reads_pair s from ch c =
     split_result2 (Paired s c from) (next_char s c) _ _ (λ d q. tt) λ k d q.
     split_option (Paired s c from) (get_two_char_simple_token ch k) _ _ (λ m. tt) λ t m.
-    record { reach = reach_one q; inside = subst Bare m (two_bare ch k) from d.at }
+    record { reach = reach_one q; inside = (subst Bare m (two_bare ch k)).0 from d.at }
 
 reads_token : (s : Bytes) (from ch : ℕ) (c : Cursor) → from ≤ c.at → Reads s c from (read_token s from ch c)
 unfolding read_token

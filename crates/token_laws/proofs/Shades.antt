@@ -6,7 +6,7 @@ use mathlib.Core.Bool.{Bool, true, false}
 use lib.Dec.{eqb}
 use Rattle.base.proofs.Options.{split_option, split_option2, split_result2}
 use Rattle.base.specs.Bytes.{Bytes, ascii, same, within}
-use Rattle.base.specs.Choice.{pick_split, clash}
+use Rattle.base.specs.Choice.{pick_split, different}
 use Rattle.color.specs.declared.Color.{Color as Rgb}
 use Rattle.cursor.specs.Blank.{next_significant_char}
 use Rattle.cursor.specs.Class.{in_span, can_be_in_at_directive, can_start_identifier, can_continue_identifier, to_digit}
@@ -16,6 +16,7 @@ use Rattle.cursor.specs.declared.number.Digits.{Digits}
 use Rattle.cursor.specs.Number.{read_digits}
 use Rattle.cursor.proofs.Reaching.{split-Significant}
 use Rattle.token_laws.specs.Claims.{ColorsSmall}
+use Rattle.token_laws.proofs.Consuming.{Bare, two_bare, one_bare}
 use Rattle.token_number.specs.Number.{is_bare_dot, finish_number, first_digit, read_unsigned, read_signed, read_number}
 use Rattle.token.specs.Read.{
   range,
@@ -36,7 +37,7 @@ use Rattle.token.specs.Read.{
   read_token,
 }
 use Rattle.token_kind.specs.Reason.{Reading}
-use Rattle.token_kind.specs.Signs.{first_pair, get_two_char_simple_token, first_letter, get_one_char_simple_token}
+use Rattle.token_kind.specs.Signs.{get_two_char_simple_token, get_one_char_simple_token}
 use Rattle.token.specs.Step.{step_of}
 use Rattle.token_zoom.specs.Zoom.{
   read_hex_digits,
@@ -64,43 +65,9 @@ Small x = (x.r < 256) × ((x.g < 256) × (x.b < 256))
 abbrev Shade : Token → Type 0
 Shade t = (x : Rgb) → t ≡ Color x → Small x
 
-no : {A : Type 0} → ◌≡◌ {A = Bool} true false → A
-no z = clash {b = true} refl z
-
 abbrev Shown : Reading → Type 0
 Shown (Err e) = Unit {0}
 Shown (Ok (t, d)) = Shade t
-
-abbrev ShownSign : Option Token → Type 0
-ShownSign None = Unit {0}
-ShownSign (Some t) = Shade t
-
-two_shown : (a b : ℕ) → ShownSign (get_two_char_simple_token a b)
-unfolding get_two_char_simple_token first_pair
-two_shown a b =
-    pick_split ShownSign _ _ _ (λ t x e. no cc) λ t.
-    pick_split ShownSign _ _ _ (λ t x e. no cc) λ t.
-    pick_split ShownSign _ _ _ (λ t x e. no cc) λ t.
-    pick_split ShownSign _ _ _ (λ t x e. no cc) λ t.
-    pick_split ShownSign _ _ _ (λ t x e. no cc) λ t. tt
-
-one_shown : (k : ℕ) → ShownSign (get_one_char_simple_token k)
-unfolding get_one_char_simple_token first_letter
-one_shown k =
-    pick_split ShownSign _ _ _ (λ t x e. no cc) λ t.
-    pick_split ShownSign _ _ _ (λ t x e. no cc) λ t.
-    pick_split ShownSign _ _ _ (λ t x e. no cc) λ t.
-    pick_split ShownSign _ _ _ (λ t x e. no cc) λ t.
-    pick_split ShownSign _ _ _ (λ t x e. no cc) λ t.
-    pick_split ShownSign _ _ _ (λ t x e. no cc) λ t.
-    pick_split ShownSign _ _ _ (λ t x e. no cc) λ t.
-    pick_split ShownSign _ _ _ (λ t x e. no cc) λ t.
-    pick_split ShownSign _ _ _ (λ t x e. no cc) λ t.
-    pick_split ShownSign _ _ _ (λ t x e. no cc) λ t.
-    pick_split ShownSign _ _ _ (λ t x e. no cc) λ t.
-    pick_split ShownSign _ _ _ (λ t x e. no cc) λ t.
-    pick_split ShownSign _ _ _ (λ t x e. no cc) λ t.
-    pick_split ShownSign _ _ _ (λ t x e. no cc) λ t. tt
 
 -- colours
 six_small : (v : ℕ) → Small (six_digits v)
@@ -126,18 +93,18 @@ shown_color s c =
 -- all else is none
 shown_identifier : (s : Bytes) (from : ℕ) (c : Cursor) → Shown (read_identifier s from c)
 unfolding read_identifier
-shown_identifier s from c x e = no cc
+shown_identifier s from c x e = different cc
 
 shown_string : (s : Bytes) (c : Cursor) → Shown (read_string s c)
 unfolding read_string
-shown_string s c = split_result2 Shown (read_quoted s c) _ _ (λ e q. tt) (λ r d q x e. no cc)
+shown_string s c = split_result2 Shown (read_quoted s c) _ _ (λ e q. tt) (λ r d q x e. different cc)
 
 shown_import : (s : Bytes) (c : Cursor) → Shown (read_import s c)
 unfolding read_import
 shown_import s c =
     split_result2 Shown (next_char s c) _ _ (λ d q. tt) λ k d q.
     pick_split Shown (eqb k 34) _ _
-    (λ t. split_result2 Shown (read_quoted s d) _ _ (λ e m. tt) (λ r e m x z. no cc))
+    (λ t. split_result2 Shown (read_quoted s d) _ _ (λ e m. tt) (λ r e m x z. different cc))
     (λ t. tt)
 
 shown_directive : (s : Bytes) (from : ℕ) (c : Cursor) → Shown (read_directive s from c)
@@ -145,7 +112,7 @@ unfolding read_directive
 shown_directive s from c =
     pick_split Shown (same (within (range from c.at) s) (ascii "import")) _ _
     (λ t. shown_import s (skip_one s 40 c))
-    (λ t x e. no cc)
+    (λ t x e. different cc)
 
 shown_at : (s : Bytes) (c : Cursor) → Shown (read_at_directive s c)
 unfolding read_at_directive
@@ -158,7 +125,7 @@ shown_at s c =
 shown_finished : (minus : Bool) (x : Digits) → Shown (finish_number minus x)
 unfolding finish_number
 shown_finished minus x =
-    pick_split Shown (is_bare_dot x.sum) _ _ (λ t. tt) (λ t y e. no cc)
+    pick_split Shown (is_bare_dot x.sum) _ _ (λ t. tt) (λ t y e. different cc)
 
 shown_unsigned : (s : Bytes) (minus : Bool) (ch : ℕ) (c : Cursor) → Shown (read_unsigned s minus ch c)
 unfolding read_unsigned
@@ -190,7 +157,7 @@ shown_after_minus s from c =
 
 shown_ranged : (min : Option ℕ) (had : Bool) (max : Option ℕ) (d : Cursor) → Shown (ranged min had max d)
 unfolding ranged
-shown_ranged min had max d = pick_split Shown had _ _ (λ t x e. no cc) (λ t x e. no cc)
+shown_ranged min had max d = pick_split Shown had _ _ (λ t x e. different cc) (λ t x e. different cc)
 
 shown_levels : (s : Bytes) (c : Cursor) → Shown (read_levels s c)
 unfolding read_levels zoom_range
@@ -217,7 +184,7 @@ shown_long : (s : Bytes) (from ch : ℕ) (c : Cursor) → Shown (read_long s fro
 unfolding read_long
 shown_long s from ch c =
     pick_split Shown (eqb ch 64) _ _ (λ t. shown_at s c) λ t.
-    pick_split Shown (eqb ch 42) _ _ (λ u x e. no cc) λ u.
+    pick_split Shown (eqb ch 42) _ _ (λ u x e. different cc) λ u.
     pick_split Shown (can_start_identifier ch) _ _ (λ v. shown_identifier s from c) λ v.
     pick_split Shown (eqb ch 34) _ _ (λ w. shown_string s c) λ w.
     pick_split Shown (starts_number ch) _ _ (λ x. shown_number s ch c) (λ x. shown_other s from ch c)
@@ -225,7 +192,7 @@ shown_long s from ch c =
 shown_single : (s : Bytes) (from ch : ℕ) (c : Cursor) → Shown (read_single s from ch c)
 unfolding read_single
 shown_single s from ch c =
-    split_option Shown (get_one_char_simple_token ch) _ _ (λ q. shown_long s from ch c) λ t q. subst ShownSign q (one_shown ch)
+    split_option Shown (get_one_char_simple_token ch) _ _ (λ q. shown_long s from ch c) λ t q x e. absurd ((subst Bare q (one_bare ch)).1 x e)
 
 abbrev ShownPair : Option (Token × Cursor) → Type 0
 ShownPair None = Unit {0}
@@ -235,7 +202,7 @@ shown_pair : (s : Bytes) (ch : ℕ) (c : Cursor) → ShownPair (read_pair s ch c
 unfolding read_pair
 shown_pair s ch c =
     split_result2 ShownPair (next_char s c) _ _ (λ d q. tt) λ k d q.
-    split_option ShownPair (get_two_char_simple_token ch k) _ _ (λ m. tt) λ t m. subst ShownSign m (two_shown ch k)
+    split_option ShownPair (get_two_char_simple_token ch k) _ _ (λ m. tt) λ t m x e. absurd ((subst Bare m (two_bare ch k)).1 x e)
 
 shown_token : (s : Bytes) (from ch : ℕ) (c : Cursor) → Shown (read_token s from ch c)
 unfolding read_token

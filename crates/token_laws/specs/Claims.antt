@@ -13,34 +13,7 @@ use Rattle.token_kind.specs.declared.LexerError.{LexerError}
 use Rattle.token.specs.declared.Step.{Step}
 use Rattle.token.specs.declared.Step.TheVariants.{End, Took}
 use Rattle.token_kind.specs.declared.Token.{Token}
-use Rattle.token_kind.specs.declared.Token.TheVariants.{
-  Import,
-  Identifier,
-  Text,
-  Number,
-  ZoomRange,
-  ColorRef,
-  Color,
-  LeftParen,
-  RightParen,
-  LeftBracket,
-  RightBracket,
-  LeftBrace,
-  RightBrace,
-  Equal,
-  NotEqual,
-  Less,
-  Greater,
-  LessOrEqual,
-  GreaterOrEqual,
-  RegexMatch,
-  Bang,
-  QuestionMark,
-  Colon,
-  DoubleColon,
-  SemiColon,
-  Comma,
-}
+use Rattle.token_kind.specs.declared.Token.TheVariants.{Import, Identifier, Text, ColorRef, Color}
 
 -- a range of the text between two places
 pub record Between (from to : ℕ) (r : Range) : Type 0 where
@@ -54,28 +27,7 @@ Inside from to (Import r) = Between from to r
 Inside from to (Identifier r) = Between from to r
 Inside from to (Text r) = Between from to r
 Inside from to (ColorRef r) = Between from to r
-Inside from to (Number x) = Unit {0}
-Inside from to (ZoomRange min max) = Unit {0}
-Inside from to (Color c) = Unit {0}
-Inside from to LeftParen = Unit {0}
-Inside from to RightParen = Unit {0}
-Inside from to LeftBracket = Unit {0}
-Inside from to RightBracket = Unit {0}
-Inside from to LeftBrace = Unit {0}
-Inside from to RightBrace = Unit {0}
-Inside from to Equal = Unit {0}
-Inside from to NotEqual = Unit {0}
-Inside from to Less = Unit {0}
-Inside from to Greater = Unit {0}
-Inside from to LessOrEqual = Unit {0}
-Inside from to GreaterOrEqual = Unit {0}
-Inside from to RegexMatch = Unit {0}
-Inside from to Bang = Unit {0}
-Inside from to QuestionMark = Unit {0}
-Inside from to Colon = Unit {0}
-Inside from to DoubleColon = Unit {0}
-Inside from to SemiColon = Unit {0}
-Inside from to Comma = Unit {0}
+Inside from to t = Unit {0}
 
 -- A step that takes a token consumes at least a byte and ends within the text. The token's own place is that of its first
 -- character, the first behind blanks and comments; its range lies between that place and the one behind the token.

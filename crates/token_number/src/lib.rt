@@ -10,6 +10,7 @@ use cursor::{Cursor, to_digit};
 use token_kind::{Reading, Token, lexer_error};
 
 // The number whose first character is given; c is behind that.
+#[tactic(auto, unfolding(base::specs::Choice::pick, crate::specs::Number::read_number))]
 pub fn read_number(s: &[u8], first: u32, c: Cursor) -> Reading
     ensures { result ≡ read_number s.now first c }
 {
@@ -30,6 +31,7 @@ fn read_signed(s: &[u8], minus: bool, c: Cursor) -> Reading
 }
 
 // The number whose first digit or dot is ch; c is behind that.
+#[tactic(auto, unfolding(base::specs::Choice::pick, crate::specs::Number::read_unsigned, base::specs::Option::on_option))]
 fn read_unsigned(s: &[u8], minus: bool, ch: u32, c: Cursor) -> Reading
     ensures { result ≡ read_unsigned s.now minus ch c }
 {
@@ -44,13 +46,14 @@ fn first_digit(digit: u8, dot: bool) -> Sum
     ensures { result ≡ first_digit digit dot }
 {
     Sum {
-        whole: digit as f64,
+        whole: f64::from(digit),
         fraction: 0.0,
         places: 0,
         dot,
     }
 }
 
+#[tactic(auto, unfolding(base::specs::Choice::pick, crate::specs::Number::finish_number))]
 fn finish_number(minus: bool, digits: Digits) -> Reading
     ensures { result ≡ finish_number minus digits }
 {

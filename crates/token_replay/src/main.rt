@@ -2,7 +2,7 @@
 // tokenizer. It prints the number of each case that differs, then the totals.
 #![tactic(auto)]
 
-ghost use Rattle.std.specs.Prelude.{◌≡◌, ◌+◌, ◌≤◌, ◌<◌, length, IfSome};
+ghost use Rattle.std.specs.Prelude.{◌≤◌, ◌<◌, length, IfSome};
 
 use base::part;
 use capi_token::mapcss_next_token;

@@ -52,7 +52,7 @@ fn read_hex_digits(s: &[u8], c: Cursor) -> Hex
 fn hex_added(value: u32, digit: u8) -> u32
     ensures { result ≡ hex_added value digit }
 {
-    value % 0x100_0000 * 16 + digit as u32
+    value % 0x100_0000 * 16 + u32::from(digit)
 }
 
 // Of the digits abcdef: ab, cd, ef.
@@ -60,11 +60,8 @@ fn hex_added(value: u32, digit: u8) -> u32
 fn six_digits(value: u32) -> Color
     ensures { result ≡ six_digits value }
 {
-    Color {
-        r: (value / 65536 % 256) as u8,
-        g: (value / 256 % 256) as u8,
-        b: (value % 256) as u8,
-    }
+    let [_, r, g, b] = value.to_be_bytes();
+    Color { r, g, b }
 }
 
 // Of the digits abc: aa, bb, cc.
@@ -90,6 +87,7 @@ pub fn read_zoom_range(s: &[u8], c: Cursor) -> Reading
 }
 
 // The levels behind |z. A second one is read without a hyphen too, and then does not count.
+#[tactic(auto, unfolding(crate::specs::Zoom::read_levels))]
 fn read_levels(s: &[u8], c: Cursor) -> Reading
     ensures { result ≡ read_levels s.now c }
 {
@@ -99,6 +97,7 @@ fn read_levels(s: &[u8], c: Cursor) -> Reading
     zoom_range(min, had_hyphen, max, end)
 }
 
+#[tactic(auto, unfolding(crate::specs::Zoom::zoom_range, base::specs::Choice::pick))]
 fn zoom_range(min: Option<u8>, had: bool, max: Option<u8>, end: Cursor) -> Reading
     ensures { result ≡ zoom_range min had max end }
 {
@@ -108,6 +107,7 @@ fn zoom_range(min: Option<u8>, had: bool, max: Option<u8>, end: Cursor) -> Readi
     ranged(min, had, max, end)
 }
 
+#[tactic(auto, unfolding(crate::specs::Zoom::ranged, base::specs::Choice::pick))]
 fn ranged(min: Option<u8>, had: bool, max: Option<u8>, end: Cursor) -> Reading
     ensures { result ≡ ranged min had max end }
 {

@@ -4,10 +4,11 @@ use native.Mathlib.Omega.{arith}
 use mathlib.Core.Path.{◌≡◌, refl, sym, ◌∙◌, ap}
 use mathlib.Core.Bool.{true, ◌&&◌}
 use mathlib.Core.Logic.{◌⊎◌, inl, inr}
-use mathlib.Core.List.{List, [], ◌∷◌, ◌++◌, Memᴰ}
+use mathlib.Core.List.{List, [], ◌∷◌, ◌++◌}
 use lib.Dec.{leb, ltb}
 use lib.ListN.{length, take, drop}
 use borrow.Author.Tests.{lt-ltb, le-ltb, le-leb, lt-leb, ltb-true, ltb-false, leb-true}
+use Rattle.std.specs.List.{AllByRecursion}
 use Rattle.base.specs.Bytes.{Bytes}
 use Rattle.base.specs.Choice.{pick, by-test, and_left, and_right}
 use Rattle.scalar.specs.Scalar.{is_scalar, encode_of}
@@ -233,6 +234,11 @@ decode_encode k s e = go (scalar_cases k e)
         (λ p. back_3 k s (omega arith) (ltb-true k 0x10000 p) (inr h.0))
         (λ p. back_4 k s (ltb-false k 0x10000 p) h.1)
 
+infixr 3 ◌&◌
+-- of the first row of a table, and of the others
+◌&◌ : {A B : Type 0} → A → B → A × B
+◌&◌ a b = (a, b)
+
 -- and what is read is a scalar value, encoded by just the bytes read
 pub record Encoded (s : Bytes) (k w : ℕ) : Type 0 where
   pub scalar : is_scalar k ≡ true
@@ -383,60 +389,22 @@ module _ (s : Bytes) (k w : ℕ) where
       encoded s f₄.others k w (a ∷ b ∷ c ∷ d ∷ []) is u (scalar_high k (omega arith) o.1)
       (four_bytes k o.0 ∙ rw (y.0, y.1, y.2, y.3))
 
--- each row of the table, by its place there
-encoded_row :
-    (s : Bytes) (k w : ℕ) (row : List Span)
-    → Memᴰ row well_formed
-    → fits row s ≡ true
-    → w ≡ length row
-    → k ≡ gathered (length row) s
-    → Encoded s k w
-encoded_row s k w row (Memᴰ.head r) e q g =
-    of_1 s k w (span 0x00 0x7F) (omega arith)
-    (rw r at e) (rw r at q) (rw r at g)
-encoded_row s k w row (Memᴰ.tail (Memᴰ.head r)) e q g =
-    of_2 s k w (span 0xC2 0xDF) (omega arith) (omega arith)
-    (rw r at e) (rw r at q) (rw r at g)
-encoded_row s k w row (Memᴰ.tail (Memᴰ.tail (Memᴰ.head r))) e q g =
-    of_3 s k w (span 0xE0 0xE0) (span 0xA0 0xBF) (omega arith) (omega arith) (omega arith) (omega arith)
-    (λ a b c al ah bl bh v. (omega arith, scalar_low k (omega arith)))
-    (rw r at e) (rw r at q) (rw r at g)
-encoded_row s k w row (Memᴰ.tail (Memᴰ.tail (Memᴰ.tail (Memᴰ.head r)))) e q g =
-    of_3 s k w (span 0xE1 0xEC) tail (omega arith) (omega arith) (omega arith) (omega arith)
-    (λ a b c al ah bl bh v. (omega arith, scalar_low k (omega arith)))
-    (rw r at e) (rw r at q) (rw r at g)
-encoded_row s k w row (Memᴰ.tail (Memᴰ.tail (Memᴰ.tail (Memᴰ.tail (Memᴰ.head r))))) e q g =
-    of_3 s k w (span 0xED 0xED) (span 0x80 0x9F) (omega arith) (omega arith) (omega arith) (omega arith)
-    (λ a b c al ah bl bh v. (omega arith, scalar_low k (omega arith)))
-    (rw r at e) (rw r at q) (rw r at g)
-encoded_row s k w row (Memᴰ.tail (Memᴰ.tail (Memᴰ.tail (Memᴰ.tail (Memᴰ.tail (Memᴰ.head r)))))) e q g =
-    of_3 s k w (span 0xEE 0xEF) tail (omega arith) (omega arith) (omega arith) (omega arith)
-    (λ a b c al ah bl bh v. (omega arith, scalar_high k (omega arith) (omega arith)))
-    (rw r at e) (rw r at q) (rw r at g)
-encoded_row s k w row
-    (Memᴰ.tail
-    (Memᴰ.tail (Memᴰ.tail (Memᴰ.tail (Memᴰ.tail (Memᴰ.tail (Memᴰ.head r))))))) e q g =
-    of_4 s k w (span 0xF0 0xF0) (span 0x90 0xBF) (omega arith) (omega arith) (omega arith) (omega arith)
-    (λ a b n al ah bl bh h v. (omega arith, omega arith))
-    (rw r at e) (rw r at q) (rw r at g)
-encoded_row s k w row
-    (Memᴰ.tail
-    (Memᴰ.tail
-    (Memᴰ.tail (Memᴰ.tail (Memᴰ.tail (Memᴰ.tail (Memᴰ.tail (Memᴰ.head r)))))))) e q
-    g =
-    of_4 s k w (span 0xF1 0xF3) tail (omega arith) (omega arith) (omega arith) (omega arith)
-    (λ a b n al ah bl bh h v. (omega arith, omega arith))
-    (rw r at e) (rw r at q) (rw r at g)
-encoded_row s k w row
-    (Memᴰ.tail
-    (Memᴰ.tail
-    (Memᴰ.tail
-    (Memᴰ.tail (Memᴰ.tail (Memᴰ.tail (Memᴰ.tail (Memᴰ.tail (Memᴰ.head r)))))))))
-    e q g =
-    of_4 s k w (span 0xF4 0xF4) (span 0x80 0x8F) (omega arith) (omega arith) (omega arith) (omega arith)
-    (λ a b n al ah bl bh h v. (omega arith, omega arith))
-    (rw r at e) (rw r at q) (rw r at g)
-encoded_row s k w row (Memᴰ.tail (Memᴰ.tail (Memᴰ.tail (Memᴰ.tail (Memᴰ.tail (Memᴰ.tail (Memᴰ.tail (Memᴰ.tail (Memᴰ.tail x39))))))))) e q g = elim x39 [ ]
+  -- what is known of each row of the table
+  abbrev Encodes : List Span → Type 0
+  Encodes row = fits row s ≡ true → w ≡ length row → k ≡ gathered (length row) s → Encoded s k w
+
+  encoded_rows : AllByRecursion Encodes well_formed
+  encoded_rows =
+      of_1 (span 0x00 0x7F) (omega arith)
+      & of_2 (span 0xC2 0xDF) (omega arith) (omega arith)
+      & of_3 (span 0xE0 0xE0) (span 0xA0 0xBF) (omega arith) (omega arith) (omega arith) (omega arith) (λ a b c al ah bl bh v. (omega arith, scalar_low k (omega arith)))
+      & of_3 (span 0xE1 0xEC) tail (omega arith) (omega arith) (omega arith) (omega arith) (λ a b c al ah bl bh v. (omega arith, scalar_low k (omega arith)))
+      & of_3 (span 0xED 0xED) (span 0x80 0x9F) (omega arith) (omega arith) (omega arith) (omega arith) (λ a b c al ah bl bh v. (omega arith, scalar_low k (omega arith)))
+      & of_3 (span 0xEE 0xEF) tail (omega arith) (omega arith) (omega arith) (omega arith) (λ a b c al ah bl bh v. (omega arith, scalar_high k (omega arith) (omega arith)))
+      & of_4 (span 0xF0 0xF0) (span 0x90 0xBF) (omega arith) (omega arith) (omega arith) (omega arith) (λ a b n al ah bl bh h v. (omega arith, omega arith))
+      & of_4 (span 0xF1 0xF3) tail (omega arith) (omega arith) (omega arith) (omega arith) (λ a b n al ah bl bh h v. (omega arith, omega arith))
+      & of_4 (span 0xF4 0xF4) (span 0x80 0x8F) (omega arith) (omega arith) (omega arith) (omega arith) (λ a b n al ah bl bh h v. (omega arith, omega arith))
+      & tt
 
 pub encode_decode : (s : Bytes) (k w : ℕ) → char_of s ≡ Code k w → Encoded s k w
-encode_decode s k w e = let o = char_row s k w e in encoded_row s k w o.row o.listed o.fitting o.width o.bits
+encode_decode s k w e = let o = char_row (Encodes s k w) (encoded_rows s k w) s k w e in o.known o.fitting o.width o.bits

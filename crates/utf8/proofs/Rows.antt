@@ -3,16 +3,18 @@ use Prim.Native.Nat.{ℕ, suc, ◌+◌, ◌<◌, ◌≤◌}
 use native.Mathlib.Omega.{arith}
 use mathlib.Core.Path.{◌≡◌, refl, sym, ◌∙◌, ap}
 use mathlib.Core.Bool.{true, false, ◌&&◌}
-use mathlib.Core.List.{List, [], ◌∷◌, Memᴰ}
+use mathlib.Core.List.{List, [], ◌∷◌}
 use lib.Dec.{leb, leb-zero}
-use lib.ListN.{length, get_or, drop, length-drop, drop_of_length-le}
+use lib.ListN.{length, get_or, drop, length-drop}
 use lib.Seq.{drop-cons, get_or-drop}
 use borrow.Author.Tests.{le-leb, lt-leb, leb-true}
+use Rattle.std.specs.List.{AllByRecursion}
+use Rattle.std.proofs.Common.{rules}
 use Rattle.base.specs.Bytes.{Bytes}
 use Rattle.base.specs.Choice.{pick, by-test, clash, and_left, and_right}
 use Rattle.utf8.specs.Utf8.{Span, span, fits, gathered, by_row, well_formed, char_of, char_at, decode_of}
 use Rattle.utf8.specs.declared.Char.{Char}
-use Rattle.utf8.specs.declared.Char.TheVariants.{Bad, End, Code}
+use Rattle.utf8.specs.declared.Char.TheVariants.{Code}
 
 -- the row of one byte
 pub one_fits : (a : ℕ) → a ≤ 0x7F → fits (span 0 0x7F ∷ []) (a ∷ []) ≡ true
@@ -47,40 +49,29 @@ char_in s at b c d r h p q u e =
     let u' : d ≡ get_or l 2 0 = u ∙ ap (λ (i : ℕ). get_or s i 0) (omega arith) ∙ sym (get_or-drop (suc at) s 2 0) in
     rw (drop-cons s at 0 h) (e ∙ rw (p', q', u') (row_decoded (get_or s at 0) l))
 
-pub char_end : (s : Bytes) (at : ℕ) → length s ≤ at → End ≡ char_at s at
-unfolding char_at char_of
-char_end s at h = rw (drop_of_length-le s h)
-
--- a character is of a row of the table: its bytes fit the row, which gives its width and its bits
-pub record OfRow (rows : List (List Span)) (s : Bytes) (k w : ℕ) : Type 0 where
+-- a character is of a row of the table: its bytes fit the row, which gives its width and its bits; P is known of each row
+pub record OfRow (P : List Span → Type 0) (s : Bytes) (k w : ℕ) : Type 0 where
   pub row : List Span
-  pub listed : Memᴰ row rows
+  pub known : P row
   pub fitting : fits row s ≡ true
   pub width : w ≡ length row
   pub bits : k ≡ gathered (length row) s
 
-pub of_row : (rows : List (List Span)) (s : Bytes) (k w : ℕ) → by_row rows s ≡ Code k w → OfRow rows s k w
-unfolding by_row pick
-of_row [] s k w e = absurd (differ e)
-  where
-    differ : Bad ≡ Code k w → ⊥
-    differ q = let z : ◌≡◌ {A = ℕ} 0 1 = cc in omega arith
-of_row (r ∷ rs) s k w e =
-    by-test (fits r s)
-    (λ t.
-    let q : Code (gathered (length r) s) (length r) ≡ Code k w = rw t at e in
-    record { row = r; listed = Memᴰ.head refl; fitting = t; width = cc; bits = cc })
-    (λ t.
-    let o = of_row rs s k w (rw t at e) in
-    record { row = o.row; listed = Memᴰ.tail o.listed; fitting = o.fitting; width = o.width; bits = o.bits })
+module _ (P : List Span → Type 0) where
+  of_row : (rows : List (List Span)) → AllByRecursion P rows → (s : Bytes) (k w : ℕ) → by_row rows s ≡ Code k w → OfRow P s k w
+  unfolding by_row pick
+  of_row [] p s k w e = absurd (cc)
+  of_row (r ∷ rs) p s k w e =
+      by-test (fits r s)
+      (λ t.
+      let q : Code (gathered (length r) s) (length r) ≡ Code k w = rw t at e in
+      record { row = r; known = p.0; fitting = t; width = cc; bits = cc })
+      (λ t. of_row rs p.1 s k w (rw t at e))
 
-pub char_row : (s : Bytes) (k w : ℕ) → char_of s ≡ Code k w → OfRow well_formed s k w
-unfolding char_of
-char_row [] k w e = absurd (differ e)
-  where
-    differ : End ≡ Code k w → ⊥
-    differ q = let z : ◌≡◌ {A = ℕ} 0 1 = cc in omega arith
-char_row (b ∷ s) k w e = of_row well_formed (b ∷ s) k w e
+  pub char_row : AllByRecursion P well_formed → (s : Bytes) (k w : ℕ) → char_of s ≡ Code k w → OfRow P s k w
+  unfolding char_of
+  char_row p [] k w e = absurd (cc)
+  char_row p (b ∷ s) k w e = of_row well_formed p (b ∷ s) k w e
 
 -- bytes that fit a row: the first is in the first range, the others fit the other ranges
 pub record Fitting (r : Span) (rs : List Span) (s : Bytes) : Type 0 where
@@ -113,36 +104,18 @@ fits_length (r ∷ rs) (b ∷ s) e =
     let h = fits_length rs s (and_right (leb r.low b && leb b r.high) (fits rs s) e) in omega arith
 
 -- each row of the table has one to four ranges
-row_width : (r : List Span) → Memᴰ r well_formed → (1 ≤ length r) × (length r ≤ 4)
-row_width r (Memᴰ.head e) = rw e (omega arith, omega arith)
-row_width r (Memᴰ.tail (Memᴰ.head e)) = rw e (omega arith, omega arith)
-row_width r (Memᴰ.tail (Memᴰ.tail (Memᴰ.head e))) = rw e (omega arith, omega arith)
-row_width r (Memᴰ.tail (Memᴰ.tail (Memᴰ.tail (Memᴰ.head e)))) = rw e (omega arith, omega arith)
-row_width r (Memᴰ.tail (Memᴰ.tail (Memᴰ.tail (Memᴰ.tail (Memᴰ.head e))))) = rw e (omega arith, omega arith)
-row_width r (Memᴰ.tail (Memᴰ.tail (Memᴰ.tail (Memᴰ.tail (Memᴰ.tail (Memᴰ.head e)))))) =
-    rw e (omega arith, omega arith)
-row_width r (Memᴰ.tail (Memᴰ.tail (Memᴰ.tail (Memᴰ.tail (Memᴰ.tail (Memᴰ.tail (Memᴰ.head e))))))) =
-    rw e (omega arith, omega arith)
-row_width r
-    (Memᴰ.tail
-    (Memᴰ.tail
-    (Memᴰ.tail (Memᴰ.tail (Memᴰ.tail (Memᴰ.tail (Memᴰ.tail (Memᴰ.head e)))))))) =
-    rw e (omega arith, omega arith)
-row_width r
-    (Memᴰ.tail
-    (Memᴰ.tail
-    (Memᴰ.tail
-    (Memᴰ.tail (Memᴰ.tail (Memᴰ.tail (Memᴰ.tail (Memᴰ.tail (Memᴰ.head e)))))))))
-    =
-    rw e (omega arith, omega arith)
-row_width r (Memᴰ.tail (Memᴰ.tail (Memᴰ.tail (Memᴰ.tail (Memᴰ.tail (Memᴰ.tail (Memᴰ.tail (Memᴰ.tail (Memᴰ.tail x36))))))))) = elim x36 [ ]
+abbrev OneToFour : List Span → Type 0
+OneToFour r = (1 ≤ length r) × (length r ≤ 4)
+
+row_widths : AllByRecursion OneToFour well_formed
+row_widths = search rules
 
 -- a character has one to four bytes, and they lie within the text
 pub char_within : (s : Bytes) (at k w : ℕ) → char_at s at ≡ Code k w → (1 ≤ w) × (w ≤ 4) × (at + w ≤ length s)
 unfolding char_at
 char_within s at k w e =
-    let o = char_row (drop at s) k w e in
-    let h = row_width o.row o.listed in
+    let o = char_row OneToFour row_widths (drop at s) k w e in
+    let h = o.known in
     let l = fits_length o.row (drop at s) o.fitting in
     let d = length-drop at s in
     let q = o.width in

@@ -56,10 +56,10 @@ pub record Spelled (s : Bytes) : Type 0 where
 
 no_end : (rows : List (List Span)) (s : Bytes) → by_row rows s ≡ End → ⊥
 unfolding by_row pick
-no_end [] s e = let z : ◌≡◌ {A = ℕ} 0 1 = cc in omega arith
+no_end [] s e = cc
 no_end (r ∷ rows) s e =
     by-test (fits r s)
-    (λ t. let q : Code (gathered (length r) s) (length r) ≡ End = rw t at e in let z : ◌≡◌ {A = ℕ} 0 1 = cc in omega arith)
+    (λ t. let q : Code (gathered (length r) s) (length r) ≡ End = rw t at e in cc)
     (λ t. no_end rows s (rw t at e))
 
 at_end : (s : Bytes) → char_of s ≡ End → s ≡ []

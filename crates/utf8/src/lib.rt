@@ -7,7 +7,7 @@ ghost use Rattle.utf8.specs.Utf8.{decode_of, char_at, is_utf8};
 use base::byte_at;
 
 // What stands at a place: no character, the end, or a character with its width in bytes.
-#[derive(Clone, Copy)]
+#[derive(Clone, Copy, PartialEq)]
 pub enum Char {
     Bad,
     End,
@@ -15,6 +15,7 @@ pub enum Char {
 }
 
 // The character at a place of a slice.
+#[tactic(auto, unfolding(crate::specs::Utf8::char_at, crate::specs::Utf8::char_of))]
 pub fn char_at(s: &[u8], at: usize) -> Char
     ensures { result ≡ char_at s.now at }
 {
@@ -36,15 +37,9 @@ pub fn is_utf8(s: &[u8]) -> bool
     let mut at = 0;
     loop {
         match char_at(s, at) {
-            Char::Bad => {
-                return false;
-            }
-            Char::End => {
-                return true;
-            }
-            Char::Code(_, w) => {
-                at += w;
-            }
+            Char::Bad => return false,
+            Char::End => return true,
+            Char::Code(_, w) => at += w,
         }
     }
 }
@@ -55,7 +50,7 @@ fn decode(a: u8, b: u8, c: u8, d: u8) -> Char
     ensures { result ≡ decode_of a b c d }
 {
     match (a, b, c, d) {
-        (0..=0x7F, _, _, _) => Char::Code(a as u32, 1),
+        (0..=0x7F, _, _, _) => Char::Code(u32::from(a), 1),
         (0xC2..=0xDF, 0x80..=0xBF, _, _) => Char::Code(of_two(a, b), 2),
         (0xE0, 0xA0..=0xBF, 0x80..=0xBF, _) => Char::Code(of_three(a, b, c), 3),
         (0xE1..=0xEC, 0x80..=0xBF, 0x80..=0xBF, _) => Char::Code(of_three(a, b, c), 3),
@@ -73,17 +68,20 @@ fn decode(a: u8, b: u8, c: u8, d: u8) -> Char
 fn of_two(a: u8, b: u8) -> u32
     ensures { result ≡ a % 32 * 64 + b % 64 }
 {
-    (a % 32) as u32 * 64 + (b % 64) as u32
+    u32::from(a % 32) * 64 + u32::from(b % 64)
 }
 
 fn of_three(a: u8, b: u8, c: u8) -> u32
     ensures { result ≡ a % 16 * 4096 + b % 64 * 64 + c % 64 }
 {
-    (a % 16) as u32 * 4096 + (b % 64) as u32 * 64 + (c % 64) as u32
+    u32::from(a % 16) * 4096 + u32::from(b % 64) * 64 + u32::from(c % 64)
 }
 
 fn of_four(a: u8, b: u8, c: u8, d: u8) -> u32
     ensures { result ≡ a % 8 * 262144 + b % 64 * 4096 + c % 64 * 64 + d % 64 }
 {
-    (a % 8) as u32 * 262144 + (b % 64) as u32 * 4096 + (c % 64) as u32 * 64 + (d % 64) as u32
+    u32::from(a % 8) * 262144
+        + u32::from(b % 64) * 4096
+        + u32::from(c % 64) * 64
+        + u32::from(d % 64)
 }

@@ -30,8 +30,5 @@ fn scan() -> Tally {
 
 // Whether a number has an encoding that gives the number, with the encoding's width.
 fn is_found(k: u32) -> bool {
-    let Some(e) = scalar::encode(k) else {
-        return false;
-    };
-    matches!(utf8::char_at(&e.bytes, 0), Char::Code(c, w) if c == k && w == e.width)
+    scalar::encode(k).is_some_and(|e| utf8::char_at(&e.bytes, 0) == Char::Code(k, e.width))
 }

@@ -21,7 +21,7 @@ pub struct Counts {
 }
 
 // Whether the tables of a sheet are sound beside a bundle of so many bytes; tables that are not are refused with 22.
-#[tactic(auto, using(crate::proofs::Room::counts_room), unfolding(base::specs::Choice::pick, crate::specs::Valid::tables_sound))]
+#[tactic(auto, using(crate::proofs::Room::counts_room, std::proofs::lemmas::Grind::common_steps), unfolding(base::specs::Choice::pick, crate::specs::Valid::tables_sound))]
 pub fn is_sound(
     rules: &[u32],
     selectors: &[u32],

@@ -10,10 +10,11 @@ use lib.ListN.{length, take, drop, get_or, set, length-take, length-drop, take-a
 use lib.Seq.{take-suc, set_at, append_snoc, length-take-le, drop-append-le, drop-drop, paste, paste-zero, length_paste_head, get_or-take, get_or-drop}
 use Rattle.std.specs.List.{copy_within}
 use Rattle.std.proofs.lemmas.List.Edits.{paste_more}
-use borrow.Author.Tests.{lt-ltb, le-ltb, ne_eqb, eq-eqb}
+use borrow.Author.Tests.{lt-ltb, le-ltb, ne_eqb, eq-eqb, eqb-true, eqb-false}
 use Rattle.base.specs.Bytes.{Bytes, same, within}
 use Rattle.base.specs.declared.Range.{Range}
-use Rattle.base.specs.Choice.{pick}
+use Rattle.base.specs.Choice.{pick, by-test}
+use lib.Dec.{eqb}
 use Rattle.table.specs.Value.{word_at, range_at}
 use Rattle.cascade.specs.Clause.{star, default_name}
 use Rattle.decode.specs.Decode.{layer_at}
@@ -39,34 +40,36 @@ module _ (bundle : Bytes) (selectors : List ℕ) (s w : ℕ) (e : w ≡ word_at 
   named_layer z r p f q = rw (← e, eq-eqb w 1 z) (q ∙ ap (λ x. within x bundle) f)
 
 module _ (layer : ℕ → Bytes) (t : List ℕ) (l : Bytes) where
-  seek_at :
-      (i n : ℕ)
-      → i < n
-      → seek layer t l i (n - i) ≡ cond (same l (layer (get_or t (i * 131) 0))) i (seek layer t l (i + 1) (n - (i + 1)))
+  -- what a search over the layers from i on finds, k of them
+  abbrev pub Is : ℕ → Type 0
+  Is i = same l (layer (get_or t (i * 131) 0)) ≡ true
+
+  abbrev pub Other : ℕ → Type 0
+  Other i = same l (layer (get_or t (i * 131) 0)) ≡ false
+
+  pub seek_all : (i k : ℕ) → ((j : ℕ) → i ≤ j → j < i + k → Other j) → seek layer t l i k ≡ i + k
   unfolding seek
-  seek_at i n h = ap (seek layer t l i) step
-    where
-      step : n - i ≡ suc (n - (i + 1))
-      step = omega arith
+  seek_all i zero h = omega arith
+  seek_all i (suc k) h =
+      rw (h i (omega arith) (omega arith))
+      (seek_all (i + 1) k (λ j a b. h j (omega arith) (omega arith)) ∙ (let e : i + 1 + k ≡ i + suc k = omega arith in e))
 
-  pub seek_found : (i n w : ℕ) (r : Bool) → i < n → w ≡ get_or t (i * 131) 0 → r ≡ same l (layer w) → r ≡ true → seek layer t l i (n - i) ≡ i
-  seek_found i n w r h e s y = seek_at i n h ∙ (rw (← e, ← s, y))
-
-  pub seek_next :
-      (i n w : ℕ) (r : Bool)
-      → i < n
-      → w ≡ get_or t (i * 131) 0
-      → r ≡ same l (layer w)
-      → r ≡ false
-      → seek layer t l i (n - i) ≡ seek layer t l (i + 1) (n - (i + 1))
-  seek_next i n w r h e s y = seek_at i n h ∙ (rw (← e, ← s, y))
-
-  pub seek_end : (i n : ℕ) → n ≤ i → seek layer t l i (n - i) ≡ i
+  pub seek_first :
+      (i k j : ℕ)
+      → i ≤ j
+      → j < i + k
+      → Is j
+      → ((h : ℕ) → i ≤ h → h < j → Other h)
+      → seek layer t l i k ≡ j
   unfolding seek
-  seek_end i n h = ap (seek layer t l i) step
-    where
-      step : n - i ≡ 0
-      step = omega arith
+  seek_first i zero j a b e h = absurd (omega (arith, a, b))
+  seek_first i (suc k) j a b e h =
+      by-test (eqb i j)
+      (λ q. let p = eqb-true i j q in rw (rw (sym p) at e) p)
+      (λ q.
+      let p = eqb-false i j q in
+      let m : i + 1 ≤ j = omega (arith, a, p) in
+      rw (h i (omega arith) (omega (arith, m))) (seek_first (i + 1) k j m (omega (arith, b)) e (λ n c d. h n (omega arith) d)))
 
 -- ---- rows
 
@@ -180,9 +183,6 @@ module _ (name : ℕ → Bytes) (xs ys ps : List ℕ) (m i r : ℕ) (near : i �
 
   pub assign_done : (k : ℕ) → k ≡ 129 → Done k
   assign_done k e = subst Done (sym e) done
-
-pub less_zero : (n : ℕ) → n - 0 ≡ n
-less_zero n = omega arith
 
 -- ---- runs
 

@@ -9,6 +9,7 @@ use Rattle.base.specs.Bytes.{Bytes, same}
 use Rattle.base.specs.Choice.{by-test}
 use Rattle.cascade.specs.Numbered.{assign}
 use Rattle.decode.specs.Decode.{places}
+use Rattle.decode.proofs.Places.{places_step, places_end}
 use Rattle.walk.specs.Rows.{below, place_of, assigns}
 use Rattle.std.specs.Prelude.{Option, Some, None, ltb, unwrap_or}
 use Rattle.std.specs.List.{position_or_len}
@@ -116,20 +117,6 @@ module _ (name : ℕ → Bytes) (p : ℕ) where
         len = omega (arith, here, length_assign (take count row), length-take count row)
 
 -- ---- a rule's properties, in order
-
-pub places_step : (p to : ℕ) → p < to → places p (to - p) ≡ p ∷ places (p + 1) (to - (p + 1))
-unfolding places
-places_step p to h = ap (places p) step
-  where
-    step : to - p ≡ suc (to - (p + 1))
-    step = omega arith
-
-pub places_end : (p to : ℕ) → to ≤ p → places p (to - p) ≡ []
-unfolding places
-places_end p to h = ap (places p) step
-  where
-    step : to - p ≡ 0
-    step = omega arith
 
 module _ (name : ℕ → Bytes) where
   -- rows only grow

@@ -2,13 +2,13 @@
 use Prim.Native.Nat.{ℕ, ◌+◌, ◌-◌, ◌/◌, ◌≤◌, ◌<◌, min}
 use native.Mathlib.Omega.{arith}
 use mathlib.Core.Path.{◌≡◌, refl, sym, ◌∙◌, ap, ap₂}
-use mathlib.Core.Bool.{Bool, true, false, not}
+use mathlib.Core.Bool.{Bool, true, false}
 use mathlib.Core.List.{List}
 use lib.Ieee.{Float}
 use lib.ListN.{length, replicate}
-use borrow.Author.Tests.{leb-true, lt-ltb, le-ltb, not-false}
+use borrow.Author.Tests.{leb-true, lt-ltb, le-ltb}
 use Rattle.base.specs.Bytes.{Bytes}
-use Rattle.base.specs.Choice.{pick, via, if_true, if_false, by-test}
+use Rattle.base.specs.Choice.{pick, via, if_true, if_false}
 use Rattle.base.specs.Refusal.{refusal, of_entity}
 use Rattle.base.specs.Table.{capacity_of}
 use Rattle.base.specs.declared.refusal.Refusal.{Refusal}
@@ -18,6 +18,7 @@ use Rattle.entity.specs.declared.EntityRange.{EntityRange}
 use Rattle.cascade.specs.Match.{Verdict, pass, fail, out}
 use Rattle.valid.specs.Valid.{entries_held, counts_held, tables_sound}
 use Rattle.valid.specs.declared.Counts.{Counts}
+use Rattle.valid.proofs.Judged.{judged_err, judged_ok}
 use Rattle.decode.specs.Decode.{name_at, places}
 use Rattle.matching.specs.Matching.{fit_of}
 use Rattle.matching.specs.declared.OutOfRange.{OutOfRange}
@@ -27,8 +28,7 @@ use Rattle.walk.specs.Maps.{no_rows, finish, walk_of, maps_of, layer_place}
 use Rattle.walk.specs.Selectors.{layer_in, verdict_in}
 use Rattle.walk.specs.Walking.{Given, given, names, layers, verdicts}
 use Rattle.walk.specs.declared.Walk.{Walk}
-use Rattle.std.specs.Prelude.{Option, None, Result, Ok, Err, is_ok}
-use Rattle.std.proofs.Common.{true≢false}
+use Rattle.std.specs.Prelude.{Option, None, Result, Ok, Err}
 use Rattle.walk.specs.Rows.{below}
 use Rattle.walk.proofs.RowLaws.{below_none}
 use Rattle.base.specs.Option.{result_err, result_ok}
@@ -120,17 +120,6 @@ module _ (multipolygons : Bool) (place : ℕ) (q : Result (Unit {0}) ℕ) (n : �
   unfolding finish
   finish_going x y = sym (ap (λ a. finish multipolygons place (told a n t)) y)
 
--- what a judge's answer says of what it judged
-module _ (b : Bool) (e : Refusal) {r : Result (Unit {0}) Refusal} (i : r ≡ pick b (Ok tt) (Err e)) where
-  pub judged_ok : {o : Unit {0}} → r ≡ Ok o → b ≡ true
-  judged_ok y = by-test b (λ t. t) (λ f. absurd (true≢false (ap is_ok (sym y ∙ i ∙ sym (if_false _ _ _ f refl)))))
-
-  pub judged_err : {d : Refusal} → r ≡ Err d → (b ≡ false) × (d ≡ e)
-  judged_err y =
-      by-test b
-      (λ t. absurd (true≢false (ap is_ok (if_true _ _ _ t refl ∙ sym i ∙ y))))
-      (λ f. (f, let p = sym y ∙ i ∙ sym (if_false _ _ _ f refl) in cc))
-
 held_first : (b x : Bool) → pick b x false ≡ true → b ≡ true
 unfolding pick
 held_first true x e = refl
@@ -140,12 +129,9 @@ module _ (bundle rules selectors tests properties : List ℕ) (numbers : List Fl
   abbrev sound : Bool
   sound = tables_sound rules selectors tests properties numbers n (length bundle)
 
-  few : sound ≡ true → n.rules ≤ 16384
+  pub rules_few : sound ≡ true → n.rules ≤ 16384
   unfolding tables_sound counts_held entries_held capacity_of
-  few e = omega (arith, leb-true n.rules (min 16384 (length rules / 8)) (held_first _ _ (held_first _ _ e)))
-
-  pub rules_few : (b : Bool) → b ≡ sound → not b ≡ false → n.rules ≤ 16384
-  rules_few b i y = few (via i (not-false b y))
+  rules_few e = omega (arith, leb-true n.rules (min 16384 (length rules / 8)) (held_first _ _ (held_first _ _ e)))
 
   module _ (zoom : ℕ) (entity : Bytes) (b : Result (Unit {0}) Refusal) (i : b ≡ pick sound (Ok tt) (Err (refusal 22 0 0 0 0)))
       (x : Result ℕ Refusal) (u : List ℕ) where
@@ -157,7 +143,7 @@ module _ (bundle rules selectors tests properties : List ℕ) (numbers : List Fl
         → (x, u) ≡ maps_of bundle rules selectors tests properties numbers n zoom entity
     unfolding maps_of
     maps_broken z e y w =
-        let j = judged_err sound (refusal 22 0 0 0 0) i y in
+        let j = judged_err _ _ i y in
         if_false _ _ _ j.0 (ap₂ (λ (x : Result ℕ Refusal) (v : List ℕ). (x, v)) (w ∙ ap Err j.1) z)
 
     module _ (o : Unit {0}) (y : b ≡ Ok o) (q : Result EntityRange Refusal) (j : q ≡ single_of entity) where
@@ -169,7 +155,7 @@ module _ (bundle rules selectors tests properties : List ℕ) (numbers : List Fl
           → (x, u) ≡ maps_of bundle rules selectors tests properties numbers n zoom entity
       unfolding maps_of
       maps_bad z e w m =
-          if_true _ _ _ (judged_ok sound (refusal 22 0 0 0 0) i y)
+          if_true _ _ _ (judged_ok _ _ i y).0
           (result_err _ _ _ (via j w) (ap₂ (λ (x : Result ℕ Refusal) (v : List ℕ). (x, v)) m z))
 
       pub maps_walked :
@@ -178,7 +164,7 @@ module _ (bundle rules selectors tests properties : List ℕ) (numbers : List Fl
           → (x, u) ≡ walk_of bundle rules selectors tests properties numbers n.rules zoom entity e false 0
           → (x, u) ≡ maps_of bundle rules selectors tests properties numbers n zoom entity
       unfolding maps_of
-      maps_walked e w walked = if_true _ _ _ (judged_ok sound (refusal 22 0 0 0 0) i y) (result_ok _ _ _ (via j w) walked)
+      maps_walked e w walked = if_true _ _ _ (judged_ok _ _ i y).0 (result_ok _ _ _ (via j w) walked)
 
 -- ---- the walk alone
 

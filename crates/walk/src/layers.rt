@@ -18,12 +18,8 @@ use table::Tables;
 pub fn find_named(tables: &Tables, t: &[u32], n: Layers, name: &[u8]) -> Option<Layers>
     ensures { result ≡ below n (seek (layer_in tables.now.bundle.now tables.now.selectors.now) t.now name.now 0 n) }
 {
-    for i in 0..n.n {
-        if is_layer(tables, selector_at(t, i), name) {
-            return Some(Layers { n: i });
-        }
-    }
-    None
+    let i = (0..n.n).find(|&i| is_layer(tables, selector_at(t, i), name))?;
+    Some(Layers { n: i })
 }
 
 impl Walk<'_> {
@@ -48,7 +44,7 @@ impl Walk<'_> {
         ensures { result ≡ below self.now.count (seek (layers self.now) self.now.rows.now (layers self.now s) 0 self.now.count) }
     {
         let name = layer_name(self.tables, s);
-        find_named(self.tables, &self.rows[..], self.count, name)
+        find_named(self.tables, self.rows, self.count, name)
     }
 
     // Makes a layer, named by selector s: a copy of the row of `*`, if there is one.
@@ -60,7 +56,7 @@ impl Walk<'_> {
     {
         let n = self.count;
         let at = n.n * ROW;
-        if let Some(j) = find_named(self.tables, &self.rows[..], n, b"*") {
+        if let Some(j) = find_named(self.tables, self.rows, n, b"*") {
             self.rows.copy_within(j.n * ROW..(j.n + 1) * ROW, at);
         }
         self.rows[at] = s;

@@ -11,7 +11,7 @@ ghost use Rattle.walk.specs.Walking.{given, names, layers, verdicts};
 use base::refusal::{Refusal, TABLE_BROKEN, TAG_NUMBER};
 use base::word_at;
 use entity::{ALONE, Entity, StreamPlace, single_entity};
-use maps::Layers;
+use maps::{Layers, Maps};
 use matching::matches;
 use rows::Properties;
 use table::Tables;
@@ -28,7 +28,7 @@ pub fn property_maps(
     n: Counts,
     zoom: u8,
     entity: &[u8],
-    maps: &mut [u32; 4323],
+    maps: &mut Maps,
 ) -> Result<usize, Refusal>
     ensures maps_after { (result, maps.new) ≡ maps_of tables.now.bundle.now tables.now.rules.now tables.now.selectors.now tables.now.tests.now tables.now.properties.now tables.now.numbers.now n zoom entity.now }
     ensures few { few result }
@@ -51,7 +51,7 @@ pub fn walk_entity(
     zoom: u8,
     entity: Entity,
     place: StreamPlace,
-    maps: &mut [u32; 4323],
+    maps: &mut Maps,
 ) -> Result<Layers, Refusal>
     ensures { (result, maps.new) ≡ walk_of tables.now.bundle.now tables.now.rules.now tables.now.selectors.now tables.now.tests.now tables.now.properties.now tables.now.numbers.now total zoom entity.entry.bytes.now entity.entry.range place.multipolygons place.place }
 {
@@ -66,7 +66,7 @@ fn walk_cleared(
     zoom: u8,
     entity: Entity,
     place: StreamPlace,
-    maps: &mut [u32; 4323],
+    maps: &mut Maps,
 ) -> Result<Layers, Refusal>
     requires { maps.old ≡ no_rows }
     ensures { (result, maps.new) ≡ walk_of tables.now.bundle.now tables.now.rules.now tables.now.selectors.now tables.now.tests.now tables.now.properties.now tables.now.numbers.now total zoom entity.entry.bytes.now entity.entry.range place.multipolygons place.place }
@@ -107,7 +107,7 @@ struct Walk<'a> {
     tables: &'a Tables<'a>,
     zoom: u8,
     entity: Entity<'a>,
-    rows: &'a mut [u32; 4323],
+    rows: &'a mut Maps,
     count: Layers,
 }
 
@@ -154,10 +154,8 @@ impl Walk<'_> {
         ensures hit { told result self.new.count self.new.rows.now ≡ hit_of (names self.old) (layers self.old) (verdicts self.old) self.old.rows.now self.old.count s (numbers_in ps) }
         ensures same { given self.new ≡ given self.old }
     {
-        let Ok(fits) = matches(self.tables, self.zoom, self.entity, s as usize) else {
-            return Err(TAG_NUMBER);
-        };
-        if !fits {
+        let fits = matches(self.tables, self.zoom, self.entity, s as usize);
+        if !fits.map_err(|_| TAG_NUMBER)? {
             return Ok(());
         }
         self.step(s, ps)

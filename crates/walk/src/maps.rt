@@ -7,6 +7,9 @@ use std::marker::Model;
 // The words of a row.
 pub const ROW: usize = 131;
 
+// The whole table.
+pub type Maps = [u32; 33 * ROW];
+
 // How many layers there are, or the number of one: the table has 33 rows, and no map has more than 32.
 #[derive(Clone, Copy)]
 pub struct Layers {
@@ -33,14 +36,13 @@ pub fn selector_at(maps: &[u32], i: usize) -> u32
 }
 
 // The numbers of the properties of layer i.
-pub fn row_of(maps: &[u32; 4323], i: usize) -> &[u32]
+pub fn row_of(maps: &Maps, i: usize) -> &[u32]
     ensures { result.now ≡ numbers_at maps.now i }
 {
-    let t = &maps[..];
     if 32 < i {
-        return &t[..0];
+        return &maps[..0];
     }
     let a = i * ROW + 2;
-    let count = t[i * ROW + 1] as usize;
-    &t[a..(a + count).min(t.len())]
+    let count = maps[i * ROW + 1] as usize;
+    &maps[a..(a + count).min(maps.len())]
 }

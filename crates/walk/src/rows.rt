@@ -23,7 +23,7 @@ fn assign_property(tables: &Tables, row: &mut [u32], count: usize, p: u32) -> us
     let name = name_of(tables, p);
     let at = find_name(tables, &row[..count], name).unwrap_or(count);
     row[at] = p;
-    if at < count { count } else { count + 1 }
+    count.max(at + 1)
 }
 
 // Assigns properties to a row, in order, and returns the new count: the row's length where they leave no entry free.

@@ -1,19 +1,12 @@
-use mathlib.Core.Path.{◌∙◌}
-use Rattle.canvas.proofs.CanvasLaws.{canvas_end, canvas_found, canvas_next}
+use mathlib.Core.Path.{refl, ◌∙◌}
+use Prim.Native.Nat.{◌-◌}
+use Rattle.std.proofs.Common.{rules}
+use Rattle.std.proofs.lemmas.Iterator.{YieldsList-from_range}
+use Rattle.std.proofs.lemmas.Iterator.Search.{any_from_yields_List}
+use Rattle.canvas.proofs.CanvasLaws.{canvas_among}
 use Rattle.canvas.proofs.any_canvas.Goals as goal
 
-pub returns-then-is_canvas : goal.returns-then-is_canvas
-returns-then-is_canvas c = let a = c.args in
-    canvas_found a.selectors.now a.range.to c.loop-s.s c.loop-s-test.true
-    _ c.is_canvas.ensures c.if-is_canvas.true
-    ∙ c.loop-s.invariant
-
-pub loop-s-preserved : goal.loop-s-preserved
-loop-s-preserved c = let a = c.args in
-    canvas_next a.selectors.now a.range.to c.loop-s.s c.loop-s-test.true _
-    c.is_canvas.ensures c.if-is_canvas.false
-    ∙ c.loop-s.invariant
-
 pub returns : goal.returns
-returns c = let a = c.args in
-    canvas_end a.selectors.now a.range.to c.loop-s.s c.loop-s-test.false ∙ c.loop-s.invariant
+returns c = let r = c.args.range in
+    any_from_yields_List _ _ _ _ c.any.ensures.ran (YieldsList-from_range r.from r.to (r.to - r.from) refl refl) (λ x b q k. search rules)
+    ∙ canvas_among c.args.selectors.now r.from (r.to - r.from)

@@ -1,13 +1,15 @@
-use mathlib.Core.Path.{◌∙◌}
+use mathlib.Core.Path.{◌∙◌, ap}
+use Rattle.std.proofs.Math.Nat.{sub-zero}
+use Rattle.decode.specs.Decode.{places}
 use Rattle.canvas.specs.Canvas.{or_color, rules_color}
-use Rattle.canvas.proofs.CanvasLaws.{all_left, rules_end, rules_step}
+use Rattle.canvas.proofs.CanvasLaws.{rules_end, rules_step}
 use Rattle.canvas.proofs.rules_color.Goals as goal
 
 pub loop-r-init : goal.loop-r-init
 loop-r-init c = let a = c.args in
-    all_left
-    (rules_color a.tables.now.bundle.now a.tables.now.rules.now a.tables.now.selectors.now a.tables.now.properties.now a.tables.now.numbers.now a.name.now)
-    a.total
+    ap
+    (λ n. rules_color a.tables.now.bundle.now a.tables.now.rules.now a.tables.now.selectors.now a.tables.now.properties.now a.tables.now.numbers.now a.name.now (places 0 n))
+    (sub-zero a.total)
 
 pub loop-r-preserved : goal.loop-r-preserved
 unfolding or_color

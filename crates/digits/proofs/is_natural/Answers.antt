@@ -1,12 +1,6 @@
 use Rattle.std.proofs.Common.{ℕ, ◌+◌, eqb, sym, ap, ◌∙◌, arith, ne_eqb}
-use lib.Seq.{take-length}
-use Rattle.base.specs.Bytes.{same}
 use Rattle.digits.proofs.Written.{natural_end, natural_long, natural_last, natural_differ, natural_next}
-use Rattle.sheet.specs.Digits.{natural_digits}
 use Rattle.digits.proofs.is_natural.Goals as goal
-
-pub loop-i-init : goal.loop-i-init
-loop-i-init c = (omega arith, ap (λ l. same l (natural_digits c.args.n)) (take-length c.args.v.now))
 
 pub returns-then-i-eq0 : goal.returns-then-i-eq0
 returns-then-i-eq0 c = ap (λ (b : ℕ). eqb b (48 + c.loop-i.rest)) c.from-b.ensures

@@ -1,12 +1,9 @@
-use Rattle.std.proofs.Common.{T, sym, subst}
-use Rattle.digits.proofs.Wholes.{whole_nan, not_nan, whole_from, whole_to, whole_float, whole_same, whole_large}
+use Rattle.std.proofs.Common.{T, sym, subst, ◌∙◌}
+use Rattle.digits.proofs.Wholes.{whole_nan, whole_from, whole_to, whole_float, whole_same, whole_large}
 use Rattle.digits.proofs.is_whole.Goals as goal
 
 pub returns-then-is_nan : goal.returns-then-is_nan
 returns-then-is_nan c = whole_nan c.args.x c.if-is_nan.ensures.value
-
-pub without_sign-a-requires : goal.without_sign-a-requires
-without_sign-a-requires c = not_nan c.args.x c.if-is_nan.ensures.value
 
 pub truncating_f64_to_u64-requires : goal.truncating_f64_to_u64-requires
 truncating_f64_to_u64-requires c = record {
@@ -28,6 +25,6 @@ returns-then-a c = whole_same c.args.x _
     c.without_sign-a.ensures c.if-a.true _
     c.truncating_f64_to_u64.ensures
 
-pub returns : goal.returns
-returns c = whole_large c.args.x _ (subst T (sym c.well_formed.0.1) tt)
+pub returns-else-a : goal.returns-else-a
+returns-else-a c = c.if-a.false ∙ whole_large c.args.x _ (subst T (sym c.well_formed.0.1) tt)
     c.without_sign-a.ensures c.if-a.false

@@ -1,4 +1,4 @@
-use mathlib.Core.Path.{◌≡◌, refl, ◌∙◌, subst, ap}
+use mathlib.Core.Path.{◌≡◌, refl, ◌∙◌, ap}
 use native.Mathlib.Omega.{arith}
 use lib.ListN.{length, replicate, length-replicate}
 use lib.Seq.{length-take-le}
@@ -7,14 +7,22 @@ use Rattle.base.specs.declared.refusal.Refusal.{Refusal}
 use Rattle.base.proofs.Options.{handed_on}
 use Rattle.valid.proofs.Judged.{judged_err, judged_ok}
 use Rattle.order.specs.Keys.{zero_key}
-use Rattle.drawing.specs.Gather.{IsBounded}
 use Rattle.drawing.proofs.GatherLaws.{told_stopped, told_now}
-use Rattle.drawing.proofs.DrawLaws.{zeros, part_length, gathered_by, nodes_broken, nodes_refused, nodes_listed}
+use Rattle.drawing.proofs.DrawLaws.{zeros, part_length, gathered_by, counted_within, nodes_broken, nodes_refused, nodes_listed}
+use Rattle.drawing.proofs.style_entities.Goals.{After-fill}
 use Rattle.drawing.proofs.style_entities.Goals as goal
+
+-- the list, cleared
+module _ (c : After-fill) where
+  cleared : c.fill.new.self ≡ replicate (length c.args.list.now) 0
+  cleared = c.fill.ensures.after (λ y e. e)
+
+  as_long : length c.fill.new.self ≡ length c.args.list.now
+  as_long = ap length cleared ∙ length-replicate (length c.args.list.now) 0
 
 pub returns-in_err-drawing : goal.returns-in_err-drawing
 returns-in_err-drawing c = let a = c.args in let t = a.tables.now in
-    let f : c.fill.new.self ≡ replicate (length a.list.now) 0 = c.fill.ensures.after (λ y e. e) in
+    let f = cleared (goal.at.returns-in_err-drawing c).After-fill in
     let j = judged_err _ _ c.judged.ensures c.in_err-drawing.was in
     ap (λ (q : Result ℕ Refusal). (q, c.fill.new.self)) (handed_on _ c.from_residual.ensures)
     ∙ nodes_broken t.bundle.now t.rules.now t.selectors.now t.tests.now t.properties.now t.numbers.now a.n a.zoom
@@ -23,18 +31,18 @@ returns-in_err-drawing c = let a = c.args in let t = a.tables.now in
 
 pub write_list-requires : goal.write_list-requires
 write_list-requires c = let r = c.room_of in let a = c.args in
-    let f : c.fill.new.self ≡ replicate (length a.list.now) 0 = c.fill.ensures.after (λ y e. e) in
-    let s : length c.fill.new.self ≡ length a.list.now = ap length (c.fill.ensures.after (λ y e. e)) ∙ length-replicate (length a.list.now) 0 in
-    let b = subst (IsBounded _) c.in_ok-k.was c.gather.ensures.IsBounded in
-    let l = length-take-le c.in_ok-k.k c.gather.new.keys (omega (arith, b, c.gather.auto.keys)) in
+    let f = cleared (goal.at.write_list-requires c).After-fill in
+    let s = as_long (goal.at.write_list-requires c).After-fill in
+    let b = counted_within _ c.gather.new.keys _ _ c.gather.ensures.IsBounded c.in_ok-k.was c.gather.auto.keys in
+    let l = length-take-le c.in_ok-k.k c.gather.new.keys b in
     let n = part_length zero_key r.result r.ensures.most in
-    (omega arith, omega (arith, l, b, n), omega (arith, l, b, n, r.ensures.fits), zeros _ _ f s)
+    (omega arith, omega (arith, l, b, c.gather.auto.keys, n), omega (arith, l, b, c.gather.auto.keys, n, r.ensures.fits), zeros _ _ f s)
 
 pub returns-in_err-k : goal.returns-in_err-k
 returns-in_err-k c = let a = c.args in let t = a.tables.now in
     let j = judged_ok _ _ c.judged.ensures c.in_ok-drawing.was in
-    let f : c.fill.new.self ≡ replicate (length a.list.now) 0 = c.fill.ensures.after (λ y e. e) in
-    let s : length c.fill.new.self ≡ length a.list.now = ap length (c.fill.ensures.after (λ y e. e)) ∙ length-replicate (length a.list.now) 0 in
+    let f = cleared (goal.at.returns-in_err-k c).After-fill in
+    let s = as_long (goal.at.returns-in_err-k c).After-fill in
     ap (λ (q : Result ℕ Refusal). (q, c.fill.new.self)) (handed_on _ c.from_residual-in_err-k.ensures)
     ∙ nodes_refused t.bundle.now t.rules.now t.selectors.now t.tests.now t.properties.now t.numbers.now a.n a.zoom
     a.settings (length a.list.now)
@@ -47,9 +55,9 @@ returns-in_err-k c = let a = c.args in let t = a.tables.now in
 pub returns : goal.returns
 returns c = let a = c.args in let t = a.tables.now in
     let j = judged_ok _ _ c.judged.ensures c.in_ok-drawing.was in
-    let s : length c.fill.new.self ≡ length a.list.now = ap length (c.fill.ensures.after (λ y e. e)) ∙ length-replicate (length a.list.now) 0 in
-    let b = subst (IsBounded _) c.in_ok-k.was c.gather.ensures.IsBounded in
-    let l = length-take-le c.in_ok-k.k c.gather.new.keys (omega (arith, b, c.gather.auto.keys)) in
+    let s = as_long (goal.at.returns c).After-fill in
+    let b = counted_within _ c.gather.new.keys _ _ c.gather.ensures.IsBounded c.in_ok-k.was c.gather.auto.keys in
+    let l = length-take-le c.in_ok-k.k c.gather.new.keys b in
     nodes_listed t.bundle.now t.rules.now t.selectors.now t.tests.now t.properties.now t.numbers.now a.n a.zoom
     a.settings (length a.list.now)
     j.0

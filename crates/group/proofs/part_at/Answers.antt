@@ -11,4 +11,4 @@ returns-in_err-b c = option_none _ _ _ (sym (number_end _ _ _ c.in_err-b.ensures
 
 pub returns-then-b-lt128 : goal.returns-then-b-lt128
 unfolding part_at
-returns-then-b-lt128 c = option_some _ _ _ (number_short _ _ _ c.in_ok-b.ensures.lookup.0 _ c.in_ok-b.ensures.lookup.1 (omega arith) (omega arith)) c.sized.ensures
+returns-then-b-lt128 c = option_some _ _ _ (number_short _ _ _ c.in_ok-b.ensures.lookup.0 _ c.in_ok-b.ensures.lookup.1 (omega arith) (omega arith)) (rw c.from.ensures at c.sized.ensures)

@@ -3,9 +3,6 @@ use mathlib.Core.Path.{refl, ◌∙◌, ap}
 use Rattle.line.proofs.LineLaws.{numbers_more, refusal_done}
 use Rattle.line.proofs.refusal_line.Goals as goal
 
-pub loop-x-init : goal.loop-x-init
-loop-x-init c = (refl, refl)
-
 pub loop-x-preserved : goal.loop-x-preserved
 loop-x-preserved c = (
   numbers_more _ _ _ c.loop-x.x-index c.numbers-x-items.ensures c.loop-x-test.true c.put_number.ensures.put ∙ c.loop-x.invariant.0,

@@ -24,4 +24,7 @@ unfolding token_of is_sign on_identifier
 returns-in-RightBrace c = λ τ K N. got_as (Nexts _ _ _ _ _ _) _ _ _ _ _ (via c.read_mandatory_token.ensures c.in_ok-t.was) c.in-RightBrace.is (λ m1. at_end _ (omega arith))
 
 pub returns-in_default : goal.returns-in_default
-returns-in_default c = λ τ K N. got (Nexts _ _ _ _ _ _) _ _ _ _ _ (via c.read_mandatory_token.ensures c.in_ok-t.was) (λ m1. not_identifier _ (1 ∷ 12 ∷ []) _ (opened c.in_default.in_default-own.keys3) (Nexts _ _ _ _ _ _) _ _ tt (no_way (Nexts _ _ _ _ _ _) _ _ _ (not_sign _ (1 ∷ 12 ∷ []) _ (opened c.in_default.in_default-own.keys3) right_brace tt) (no_next c.refuse.ensures)))
+returns-in_default c =
+    let taken = 1 ∷ 12 ∷ [] in
+    let own = opened c.in_default.in_default-own.keys3 in
+    λ τ K N. got (Nexts _ _ _ _ _ _) _ _ _ _ _ (via c.read_mandatory_token.ensures c.in_ok-t.was) (λ m1. not_identifier _ taken _ own (Nexts _ _ _ _ _ _) _ _ tt (no_way (Nexts _ _ _ _ _ _) _ _ _ (not_sign _ taken _ own right_brace tt) (no_next c.refuse.ensures)))

@@ -28,4 +28,7 @@ unfolding token_of is_sign
 returns-in_ok-x-in-Comma c = λ τ K N. got_as (Nexts _ _ _ _ _ _) _ _ _ _ _ (via c.read_mandatory_token.ensures c.in_ok-t.was) c.in-Comma.is (λ m1. a_figure (Nexts _ _ _ _ _ _) _ _ _ _ _ (via c.read_figure.ensures c.in_ok-x-in-Comma.was) (λ m2. a_next _ _ (omega arith)))
 
 pub returns-in_default : goal.returns-in_default
-returns-in_default c = λ τ K N. got (Nexts _ _ _ _ _ _) _ _ _ _ _ (via c.read_mandatory_token.ensures c.in_ok-t.was) (λ m1. no_way (Nexts _ _ _ _ _ _) _ _ _ (not_sign _ (24 ∷ 25 ∷ []) _ (opened c.in_default.in_default-own.keys3) semi_colon tt) (no_way (Nexts _ _ _ _ _ _) _ _ _ (not_sign _ (24 ∷ 25 ∷ []) _ (opened c.in_default.in_default-own.keys3) comma tt) (no_next c.refuse.ensures)))
+returns-in_default c =
+    let taken = 24 ∷ 25 ∷ [] in
+    let own = opened c.in_default.in_default-own.keys3 in
+    λ τ K N. got (Nexts _ _ _ _ _ _) _ _ _ _ _ (via c.read_mandatory_token.ensures c.in_ok-t.was) (λ m1. no_way (Nexts _ _ _ _ _ _) _ _ _ (not_sign _ taken _ own semi_colon tt) (no_way (Nexts _ _ _ _ _ _) _ _ _ (not_sign _ taken _ own comma tt) (no_next c.refuse.ensures)))

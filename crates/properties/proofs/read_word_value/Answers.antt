@@ -26,4 +26,7 @@ unfolding token_of is_sign
 returns-in-SemiColon c = λ τ. got_as (Values _ _ _ _ _) _ _ _ _ _ (via c.read_mandatory_token.ensures c.in_ok-t.was) c.in-SemiColon.is (λ m1. good_value _ _ (omega arith) refl)
 
 pub returns-in_default : goal.returns-in_default
-returns-in_default c = λ τ. got (Values _ _ _ _ _) _ _ _ _ _ (via c.read_mandatory_token.ensures c.in_ok-t.was) (λ m1. no_way (Values _ _ _ _ _) _ _ _ (not_sign _ (22 ∷ 24 ∷ []) _ (opened c.in_default.in_default-own.keys3) colon tt) (no_way (Values _ _ _ _ _) _ _ _ (not_sign _ (22 ∷ 24 ∷ []) _ (opened c.in_default.in_default-own.keys3) semi_colon tt) (bad_value c.refuse.ensures)))
+returns-in_default c =
+    let taken = 22 ∷ 24 ∷ [] in
+    let own = opened c.in_default.in_default-own.keys3 in
+    λ τ. got (Values _ _ _ _ _) _ _ _ _ _ (via c.read_mandatory_token.ensures c.in_ok-t.was) (λ m1. no_way (Values _ _ _ _ _) _ _ _ (not_sign _ taken _ own colon tt) (no_way (Values _ _ _ _ _) _ _ _ (not_sign _ taken _ own semi_colon tt) (bad_value c.refuse.ensures)))

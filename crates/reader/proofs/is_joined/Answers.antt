@@ -1,38 +1,28 @@
-use Rattle.std.proofs.Common.{sym, ◌∙◌, eq-eqb, eqb-true, le-ltb}
-use Rattle.base.specs.Choice.{clash}
-use Rattle.reader.proofs.Lookup.{joined_short, joined_else, joined_not, joined_rest}
+use Rattle.std.proofs.Common.{arith, ap, ◌∙◌}
+use Rattle.std.specs.Prelude.{Some}
+use Rattle.std.proofs.lemmas.Bool.Decides.{Decides-eqb}
+use Rattle.std.proofs.lemmas.Grind.{common_steps}
+use Rattle.std.proofs.lemmas.List.{take_rest}
+use Rattle.std.proofs.lemmas.Slice.Eq.{strip_prefix_is}
+use Rattle.base.specs.Bytes.{same}
+use Rattle.reader.proofs.Lookup.{joined_none, joined_else, joined_rest}
 use Rattle.reader.proofs.is_joined.Goals as goal
-use Rattle.reader.proofs.is_joined.Goals.{then-n-key, else-n-key, then-key-n-eq58, else-key-n-eq58}
 
-pub returns-then-same_bytes : goal.returns-then-same_bytes
-returns-then-same_bytes c =
-    let a = c.args.first.now in
-    let b = c.args.second.now in
-    let y = c.args.key.now in
-    elim c.if-key-n-eq58.branch [
-      | then-key-n-eq58 w ↦
-          elim c.if-n-key.branch [
-            | then-n-key v ↦ joined_rest a b y v.if-n-key.true (eqb-true _ _ (sym v.value-is ∙ w.if-key-n-eq58.true)) _ w.same_bytes.ensures _ (sym w.value-is ∙ c.if-same_bytes.true) c.same_bytes-then-same_bytes.ensures
-            | else-n-key v ↦ clash w.if-key-n-eq58.true (v.value-is ∙ le-ltb _ _ v.if-n-key.false)
-          ]
-      | else-key-n-eq58 w ↦ clash c.if-same_bytes.true (w.value-is ∙ w.if-key-n-eq58.false)
-    ]
+pub returns-in-Some-eq58 : goal.returns-in-Some-eq58
+returns-in-Some-eq58 c =
+    c.same_bytes.ensures
+    ∙ ap (same c.args.second.now) (take_rest c.in-Some-eq58.field-0.now 1)
+    ∙ joined_rest _ _ _ _ (strip_prefix_is Decides-eqb _ _ (Some c.in-Some-eq58.field-0) c.in-Some-eq58.ensures.cases) (omega arith)
 
-pub returns-else-same_bytes : goal.returns-else-same_bytes
-returns-else-same_bytes c =
-    let a = c.args.first.now in
-    let b = c.args.second.now in
-    let y = c.args.key.now in
-    c.if-same_bytes.false
-    ∙ elim c.if-key-n-eq58.branch [
-      | then-key-n-eq58 x ↦
-          elim c.if-n-key.branch [
-            | then-n-key v ↦ joined_not a b y v.if-n-key.true (eqb-true _ _ (sym v.value-is ∙ x.if-key-n-eq58.true)) _ x.same_bytes.ensures (sym x.value-is ∙ c.if-same_bytes.false)
-            | else-n-key v ↦ clash x.if-key-n-eq58.true (v.value-is ∙ le-ltb _ _ v.if-n-key.false)
-          ]
-      | else-key-n-eq58 x ↦
-          elim c.if-n-key.branch [
-            | then-n-key v ↦ joined_else a b y v.if-n-key.true (λ e. clash (v.value-is ∙ eq-eqb _ _ e) x.if-key-n-eq58.false)
-            | else-n-key v ↦ joined_short a b y v.if-n-key.false
-          ]
-    ]
+pub returns-in_default : goal.returns-in_default
+returns-in_default c =
+    joined_else _ _ _ _
+    (rw c.in_default.is at (strip_prefix_is Decides-eqb c.args.key.now c.args.first.now _ c.strip_prefix.ensures.cases)) (λ z. grind (arith, common_steps))
+
+pub returns-in_default-2 : goal.returns-in_default-2
+returns-in_default-2 c =
+    joined_else _ _ _ _
+    (rw c.in_default.is at (strip_prefix_is Decides-eqb c.args.key.now c.args.first.now _ c.strip_prefix.ensures.cases)) (λ z. grind (arith, common_steps))
+
+pub returns-in_default-3 : goal.returns-in_default-3
+returns-in_default-3 c = joined_none _ _ _ (rw c.in_default.is at (strip_prefix_is Decides-eqb c.args.key.now c.args.first.now _ c.strip_prefix.ensures.cases))

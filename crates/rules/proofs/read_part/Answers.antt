@@ -42,4 +42,7 @@ unfolding token_of is_sign on_zoom_range
 returns-in-DoubleColon c = λ τ w. got_as (Parts _ _ _ _ _) _ _ _ _ _ (via c.read_mandatory_token.ensures c.in_ok-t.was) c.in-DoubleColon.is (λ m1. widen_part (omega arith) (c.read_layer.ensures τ w))
 
 pub returns-in_default : goal.returns-in_default
-returns-in_default c = λ τ w. got (Parts _ _ _ _ _) _ _ _ _ _ (via c.read_mandatory_token.ensures c.in_ok-t.was) (λ m1. no_way (Parts _ _ _ _ _) _ _ _ (not_sign _ (4 ∷ 9 ∷ 11 ∷ 22 ∷ 23 ∷ 25 ∷ []) _ (opened c.in_default.in_default-own.keys7) left_brace tt) (no_way (Parts _ _ _ _ _) _ _ _ (not_sign _ (4 ∷ 9 ∷ 11 ∷ 22 ∷ 23 ∷ 25 ∷ []) _ (opened c.in_default.in_default-own.keys7) comma tt) (not_zoom_range _ (4 ∷ 9 ∷ 11 ∷ 22 ∷ 23 ∷ 25 ∷ []) _ (opened c.in_default.in_default-own.keys7) (Parts _ _ _ _ _) _ _ tt (no_way (Parts _ _ _ _ _) _ _ _ (not_sign _ (4 ∷ 9 ∷ 11 ∷ 22 ∷ 23 ∷ 25 ∷ []) _ (opened c.in_default.in_default-own.keys7) left_bracket tt) (no_way (Parts _ _ _ _ _) _ _ _ (not_sign _ (4 ∷ 9 ∷ 11 ∷ 22 ∷ 23 ∷ 25 ∷ []) _ (opened c.in_default.in_default-own.keys7) colon tt) (no_way (Parts _ _ _ _ _) _ _ _ (not_sign _ (4 ∷ 9 ∷ 11 ∷ 22 ∷ 23 ∷ 25 ∷ []) _ (opened c.in_default.in_default-own.keys7) double_colon tt) (bad_part c.refuse.ensures)))))))
+returns-in_default c =
+    let taken = 4 ∷ 9 ∷ 11 ∷ 22 ∷ 23 ∷ 25 ∷ [] in
+    let own = opened c.in_default.in_default-own.keys7 in
+    λ τ w. got (Parts _ _ _ _ _) _ _ _ _ _ (via c.read_mandatory_token.ensures c.in_ok-t.was) (λ m1. no_way (Parts _ _ _ _ _) _ _ _ (not_sign _ taken _ own left_brace tt) (no_way (Parts _ _ _ _ _) _ _ _ (not_sign _ taken _ own comma tt) (not_zoom_range _ taken _ own (Parts _ _ _ _ _) _ _ tt (no_way (Parts _ _ _ _ _) _ _ _ (not_sign _ taken _ own left_bracket tt) (no_way (Parts _ _ _ _ _) _ _ _ (not_sign _ taken _ own colon tt) (no_way (Parts _ _ _ _ _) _ _ _ (not_sign _ taken _ own double_colon tt) (bad_part c.refuse.ensures)))))))

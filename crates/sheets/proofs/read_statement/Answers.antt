@@ -29,4 +29,7 @@ unfolding token_of on_import on_color_ref
 returns-in-Took-ColorRef-default-default-default c = λ τ E I C R. stepped_as (Statements _ _ _ _ _ _ _ _) _ _ _ _ _ _ (via c.next.ensures (mapped_ok _ _ _ c.map_err.ensures.cases c.in_ok-map_err.was ∙ ap Ok c.in-Took-ColorRef-default-default-default.is)) c.in-Took-ColorRef-default-default-default.field-0-is (λ m. color_of _ _ m)
 
 pub returns-in-Took : goal.returns-in-Took
-returns-in-Took c = λ τ E I C R. stepped (Statements _ _ _ _ _ _ _ _) _ _ _ _ _ _ (via c.next.ensures (mapped_ok _ _ _ c.map_err.ensures.cases c.in_ok-map_err.was ∙ ap Ok c.in-Took.is)) (λ m. not_import _ (0 ∷ 5 ∷ []) _ (opened c.in-Took.in-Took-own'.keys3) (Statements _ _ _ _ _ _ _ _) _ _ tt (not_color_ref _ (0 ∷ 5 ∷ []) _ (opened c.in-Took.in-Took-own'.keys3) (Statements _ _ _ _ _ _ _ _) _ _ tt (rule_at _ _ _ m)))
+returns-in-Took c =
+    let taken = 0 ∷ 5 ∷ [] in
+    let own = opened c.in-Took.in-Took-own'.keys3 in
+    λ τ E I C R. stepped (Statements _ _ _ _ _ _ _ _) _ _ _ _ _ _ (via c.next.ensures (mapped_ok _ _ _ c.map_err.ensures.cases c.in_ok-map_err.was ∙ ap Ok c.in-Took.is)) (λ m. not_import _ taken _ own (Statements _ _ _ _ _ _ _ _) _ _ tt (not_color_ref _ taken _ own (Statements _ _ _ _ _ _ _ _) _ _ tt (rule_at _ _ _ m)))

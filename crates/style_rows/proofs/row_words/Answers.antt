@@ -8,7 +8,7 @@ use Rattle.style_rows.proofs.row_words.Goals as goal
 
 pub returns : goal.returns
 returns c =
-    row_stored _ 0 c.args.x
+    row_stored c.args.x _ 0
     (stored_as _ 0 c.store_all.ensures c.scalars.ensures)
     (stored_as _ 11 c.store_all-2.ensures c.color_numbers.ensures)
     (stored_as _ 15 c.store_all-3.ensures c.color_numbers-2.ensures)

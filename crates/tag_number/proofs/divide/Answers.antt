@@ -1,16 +1,5 @@
-use Prim.Native.Nat.{ℕ}
-use mathlib.Core.Path.{sym, ◌∙◌, ap}
-use lib.IntN.{pos, neg_ℤ}
-use Rattle.cascade.specs.Number.{scaled}
 use Rattle.tag_number.proofs.Scaled.{divided, divided_out}
-use Rattle.tag_number.specs.Told.{told}
 use Rattle.tag_number.proofs.divide.Goals as goal
-
-pub returns-then-k-eq0 : goal.returns-then-k-eq0
-returns-then-k-eq0 c = c.multiply.ensures
-    ∙ ap
-    (λ (k : ℕ). told (scaled c.args.x.minus c.args.x.d (neg_ℤ (pos k))))
-    (sym c.if-k-eq0.true)
 
 pub returns-then-k-le22 : goal.returns-then-k-le22
 returns-then-k-le22 c = divided c.args.x.minus c.args.x.d

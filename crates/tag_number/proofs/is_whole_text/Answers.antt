@@ -1,8 +1,11 @@
+use borrow.Author.Rules.{rules}
+use mathlib.Core.Path.{ap, ◌∙◌}
+use mathlib.Core.Bool.{not}
 use Rattle.tag_number.proofs.Texts.{whole_none, whole_all}
 use Rattle.tag_number.proofs.is_whole_text.Goals as goal
 
-pub returns-then-v-eq0 : goal.returns-then-v-eq0
-returns-then-v-eq0 c = whole_none c.args.v.now c.if-v-eq0.true
+pub returns-then-not-is_empty : goal.returns-then-not-is_empty
+returns-then-not-is_empty c = whole_all c.args.v.now _ (search rules) c.digit_count.ensures
 
-pub returns : goal.returns
-returns c = whole_all c.args.v.now _ c.if-v-eq0.false c.digit_count.ensures
+pub returns-else-not-is_empty : goal.returns-else-not-is_empty
+returns-else-not-is_empty c = ap not c.if-not-is_empty.false ∙ whole_none c.args.v.now (search rules)

@@ -1,10 +1,9 @@
-use native.Mathlib.Omega.{arith}
-use mathlib.Core.Path.{◌∙◌}
-use Rattle.tag_number.proofs.Saturate.{spell_end, spell_more}
+use borrow.Author.Rules.{rules}
+use Rattle.std.proofs.lemmas.Iterator.{YieldsList-from_slice}
+use Rattle.std.proofs.lemmas.Iterator.Consumers.{fold_from_yields_List}
+use Rattle.tag_number.specs.Grown.{grown, grown_from}
 use Rattle.tag_number.proofs.spell.Goals as goal
 
-pub loop-b-preserved : goal.loop-b-preserved
-loop-b-preserved c = spell_more c.args.v.now c.loop-b.n c.loop-b.b-index _ (omega arith) c.grow-n.ensures ∙ c.loop-b.invariant
-
 pub returns : goal.returns
-returns c = spell_end c.args.v.now c.loop-b.n c.loop-b.b-index (omega arith) ∙ c.loop-b.invariant
+unfolding grown_from
+returns c = fold_from_yields_List _ grown c.args.start _ c.fold.ensures.ran (YieldsList-from_slice c.args.v.now cc) (λ a x b q k. search rules)

@@ -1,4 +1,3 @@
-use mathlib.Core.Path.{refl}
 use mathlib.Core.List.{[], ◌∷◌}
 use Rattle.input.proofs.TokenLaws.{not_sign}
 use Rattle.keep.proofs.Laws.{no_way}
@@ -12,14 +11,17 @@ use Rattle.sheet.specs.Sheet.{not_exists}
 use borrow.Enum.Refused.{opened}
 use Rattle.tests.proofs.bang_test.Goals as goal
 
-pub returns-in-RightBracket : goal.returns-in-RightBracket
+pub returns-in-RightBracket-clause-read : goal.returns-in-RightBracket-clause-read
 unfolding bang_test token_of is_sign
-returns-in-RightBracket c = record { read = bang_as (Reads _ _ _ _ _) _ _ _ _ _ c.in-RightBracket.is (c.store_test.ensures.read _ _ (unary_row c.args.text.bundle.now not_exists c.args.key c.args.store.now.tally.number)); beside = c.store_test.ensures.beside }
+returns-in-RightBracket-clause-read c = bang_as (Reads _ _ _ _ _) _ _ _ _ _ c.in-RightBracket.is (c.store_test.ensures.read _ _ (unary_row c.args.text.bundle.now not_exists c.args.key c.args.store.now.tally.number))
 
-pub returns-in-QuestionMark : goal.returns-in-QuestionMark
+pub returns-in-QuestionMark-clause-read : goal.returns-in-QuestionMark-clause-read
 unfolding bang_test token_of is_sign
-returns-in-QuestionMark c = record { read = bang_as (Reads _ _ _ _ _) _ _ _ _ _ c.in-QuestionMark.is (c.read_bang_question.ensures.read); beside = c.read_bang_question.ensures.beside }
+returns-in-QuestionMark-clause-read c = bang_as (Reads _ _ _ _ _) _ _ _ _ _ c.in-QuestionMark.is (c.read_bang_question.ensures.read)
 
-pub returns-in_default : goal.returns-in_default
+pub returns-in_default-clause-read : goal.returns-in_default-clause-read
 unfolding bang_test
-returns-in_default c = record { read = no_way (Reads _ _ _ _ _) _ _ _ (not_sign _ (10 ∷ 21 ∷ []) _ (opened c.in_default.in_default-own.keys3) right_bracket tt) (no_way (Reads _ _ _ _ _) _ _ _ (not_sign _ (10 ∷ 21 ∷ []) _ (opened c.in_default.in_default-own.keys3) question_mark tt) (refuses c.refuse.ensures)); beside = refl }
+returns-in_default-clause-read c =
+    let taken = 10 ∷ 21 ∷ [] in
+    let own = opened c.in_default.in_default-own.keys3 in
+    no_way (Reads _ _ _ _ _) _ _ _ (not_sign _ taken _ own right_bracket tt) (no_way (Reads _ _ _ _ _) _ _ _ (not_sign _ taken _ own question_mark tt) (refuses c.refuse.ensures))

@@ -11,17 +11,20 @@ use borrow.Enum.Refused.{opened}
 use Rattle.tests.proofs.read_operand.Goals as goal
 use Rattle.base.proofs.Options.{handed_on}
 
-pub returns-in_err-t : goal.returns-in_err-t
+pub returns-in_err-t-clause-read : goal.returns-in_err-t-clause-read
 unfolding token_of on_identifier on_number
-returns-in_err-t c = rw (handed_on _ c.from_residual.ensures) (record { read = λ op w f. no_token (Reads _ _ _ _ _) _ _ _ _ _ (via c.read_mandatory_token.ensures c.in_err-t.was) (refuses refl); beside = refl })
+returns-in_err-t-clause-read c = rw (handed_on _ c.from_residual.ensures) (λ op w f. no_token (Reads _ _ _ _ _) _ _ _ _ _ (via c.read_mandatory_token.ensures c.in_err-t.was) (refuses refl))
 
-pub returns-in-Identifier : goal.returns-in-Identifier
+pub returns-in-Identifier-clause-read : goal.returns-in-Identifier-clause-read
 unfolding token_of on_identifier on_number
-returns-in-Identifier c = record { read = λ op w f. got_as (Reads _ _ _ _ _) _ _ _ _ _ (via c.read_mandatory_token.ensures c.in_ok-t.was) c.in-Identifier.is (λ m1. widen (omega arith) (c.read_word_operand.ensures.read op w)); beside = c.read_word_operand.ensures.beside }
+returns-in-Identifier-clause-read c = λ op w f. got_as (Reads _ _ _ _ _) _ _ _ _ _ (via c.read_mandatory_token.ensures c.in_ok-t.was) c.in-Identifier.is (λ m1. widen (omega arith) (c.read_word_operand.ensures.read op w))
 
-pub returns-in-Number : goal.returns-in-Number
+pub returns-in-Number-clause-read : goal.returns-in-Number-clause-read
 unfolding token_of on_identifier on_number
-returns-in-Number c = record { read = λ op w f. got_as (Reads _ _ _ _ _) _ _ _ _ _ (via c.read_mandatory_token.ensures c.in_ok-t.was) c.in-Number.is (λ m1. widen (omega arith) (c.read_digits_operand.ensures.read op f)); beside = c.read_digits_operand.ensures.beside }
+returns-in-Number-clause-read c = λ op w f. got_as (Reads _ _ _ _ _) _ _ _ _ _ (via c.read_mandatory_token.ensures c.in_ok-t.was) c.in-Number.is (λ m1. widen (omega arith) (c.read_digits_operand.ensures.read op f))
 
-pub returns-in_default : goal.returns-in_default
-returns-in_default c = record { read = λ op w f. got (Reads _ _ _ _ _) _ _ _ _ _ (via c.read_mandatory_token.ensures c.in_ok-t.was) (λ m1. not_identifier _ (1 ∷ 3 ∷ []) _ (opened c.in_default.in_default-own.keys3) (Reads _ _ _ _ _) _ _ tt (not_number_lem _ (1 ∷ 3 ∷ []) _ (opened c.in_default.in_default-own.keys3) (Reads _ _ _ _ _) _ _ tt (refuses c.refuse.ensures))); beside = refl }
+pub returns-in_default-clause-read : goal.returns-in_default-clause-read
+returns-in_default-clause-read c =
+    let taken = 1 ∷ 3 ∷ [] in
+    let own = opened c.in_default.in_default-own.keys3 in
+    λ op w f. got (Reads _ _ _ _ _) _ _ _ _ _ (via c.read_mandatory_token.ensures c.in_ok-t.was) (λ m1. not_identifier _ taken _ own (Reads _ _ _ _ _) _ _ tt (not_number_lem _ taken _ own (Reads _ _ _ _ _) _ _ tt (refuses c.refuse.ensures)))

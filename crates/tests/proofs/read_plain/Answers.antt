@@ -9,8 +9,8 @@ use Rattle.keep.specs.Source.{reading}
 use Rattle.tests.proofs.read_plain.Goals as goal
 use Rattle.base.proofs.Options.{handed_on}
 
-pub returns-in_err-key : goal.returns-in_err-key
-returns-in_err-key c = rw (handed_on _ c.from_residual.ensures) (record { read = no_key (Reads _ _ _ _ _) _ _ _ _ _ (plain_test (reading c.args.text.bundle.now)) (via c.read_key.ensures c.in_err-key.was) (refuses refl); beside = refl })
+pub returns-in_err-key-clause-read : goal.returns-in_err-key-clause-read
+returns-in_err-key-clause-read c = rw (handed_on _ c.from_residual.ensures) (no_key (Reads _ _ _ _ _) _ _ _ _ _ (plain_test (reading c.args.text.bundle.now)) (via c.read_key.ensures c.in_err-key.was) (refuses refl))
 
-pub returns : goal.returns
-returns c = record { read = a_key (Reads _ _ _ _ _) _ _ _ _ _ (plain_test (reading c.args.text.bundle.now)) (via c.read_key.ensures c.in_ok-key.was) (λ m1. widen (omega arith) (c.plain_test.ensures.read)); beside = c.plain_test.ensures.beside }
+pub returns-clause-read : goal.returns-clause-read
+returns-clause-read c = a_key (Reads _ _ _ _ _) _ _ _ _ _ (plain_test (reading c.args.text.bundle.now)) (via c.read_key.ensures c.in_ok-key.was) (λ m1. widen (omega arith) (c.plain_test.ensures.read))

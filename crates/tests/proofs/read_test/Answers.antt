@@ -14,26 +14,26 @@ use borrow.Enum.Refused.{opened}
 use Rattle.tests.proofs.read_test.Goals as goal
 use Rattle.base.proofs.Options.{handed_on}
 
-pub returns-in_err-t : goal.returns-in_err-t
+pub returns-in_err-t-clause-read : goal.returns-in_err-t-clause-read
 unfolding read_test token_of is_sign on_identifier on_string
-returns-in_err-t c = rw (handed_on _ c.from_residual.ensures) (record { read = no_token (Reads _ _ _ _ _) _ _ _ _ _ (via c.read_mandatory_token.ensures c.in_err-t.was) (refuses refl); beside = refl })
+returns-in_err-t-clause-read c = rw (handed_on _ c.from_residual.ensures) (no_token (Reads _ _ _ _ _) _ _ _ _ _ (via c.read_mandatory_token.ensures c.in_err-t.was) (refuses refl))
 
-pub returns-in-Identifier : goal.returns-in-Identifier
+pub returns-in-Identifier-clause-read : goal.returns-in-Identifier-clause-read
 unfolding read_test token_of is_sign on_identifier on_string
-returns-in-Identifier c =
+returns-in-Identifier-clause-read c =
     let q = via c.read_mandatory_token.ensures c.in_ok-t.was in
-    record {
-      read = ⊎_elim
-          (λ p. got_as (Reads _ _ _ _ _) _ _ _ _ _ q p (λ m1. widen (omega arith) (c.read_plain.ensures.read)))
-          (λ p. got_as (Reads _ _ _ _ _) _ _ _ _ _ q p (λ m1. widen (omega arith) (c.read_plain.ensures.read)))
-          c.in-Identifier.is;
-      beside = c.read_plain.ensures.beside;
-    }
+    ⊎_elim
+    (λ p. got_as (Reads _ _ _ _ _) _ _ _ _ _ q p (λ m1. widen (omega arith) (c.read_plain.ensures.read)))
+    (λ p. got_as (Reads _ _ _ _ _) _ _ _ _ _ q p (λ m1. widen (omega arith) (c.read_plain.ensures.read)))
+    c.in-Identifier.is
 
-pub returns-in-Bang : goal.returns-in-Bang
+pub returns-in-Bang-clause-read : goal.returns-in-Bang-clause-read
 unfolding read_test token_of is_sign on_identifier on_string
-returns-in-Bang c = record { read = got_as (Reads _ _ _ _ _) _ _ _ _ _ (via c.read_mandatory_token.ensures c.in_ok-t.was) c.in-Bang.is (λ m1. widen (omega arith) (c.read_bang.ensures.read)); beside = c.read_bang.ensures.beside }
+returns-in-Bang-clause-read c = got_as (Reads _ _ _ _ _) _ _ _ _ _ (via c.read_mandatory_token.ensures c.in_ok-t.was) c.in-Bang.is (λ m1. widen (omega arith) (c.read_bang.ensures.read))
 
-pub returns-in_default : goal.returns-in_default
+pub returns-in_default-clause-read : goal.returns-in_default-clause-read
 unfolding read_test
-returns-in_default c = record { read = got (Reads _ _ _ _ _) _ _ _ _ _ (via c.read_mandatory_token.ensures c.in_ok-t.was) (λ m1. not_identifier _ (1 ∷ 2 ∷ 20 ∷ []) _ (opened c.in_default.in_default-own.keys4) (Reads _ _ _ _ _) _ _ tt (not_string _ (1 ∷ 2 ∷ 20 ∷ []) _ (opened c.in_default.in_default-own.keys4) (Reads _ _ _ _ _) _ _ tt (no_way (Reads _ _ _ _ _) _ _ _ (not_sign _ (1 ∷ 2 ∷ 20 ∷ []) _ (opened c.in_default.in_default-own.keys4) bang tt) (refuses c.refuse.ensures)))); beside = refl }
+returns-in_default-clause-read c =
+    let taken = 1 ∷ 2 ∷ 20 ∷ [] in
+    let own = opened c.in_default.in_default-own.keys4 in
+    got (Reads _ _ _ _ _) _ _ _ _ _ (via c.read_mandatory_token.ensures c.in_ok-t.was) (λ m1. not_identifier _ taken _ own (Reads _ _ _ _ _) _ _ tt (not_string _ taken _ own (Reads _ _ _ _ _) _ _ tt (no_way (Reads _ _ _ _ _) _ _ _ (not_sign _ taken _ own bang tt) (refuses c.refuse.ensures))))

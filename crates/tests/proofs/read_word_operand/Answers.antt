@@ -9,8 +9,8 @@ use Rattle.tests.proofs.Rows.{word_row_lem}
 use Rattle.tests.proofs.read_word_operand.Goals as goal
 use Rattle.base.proofs.Options.{handed_on}
 
-pub returns-in_err-d : goal.returns-in_err-d
-returns-in_err-d c = rw (handed_on _ c.from_residual.ensures) (record { read = λ op w. another (Reads _ _ _ _ _) _ _ _ _ _ _ (via (c.expect.ensures ∙ bracket_expected _ _ _) c.in_err-d.was) (refuses refl); beside = refl })
+pub returns-in_err-d-clause-read : goal.returns-in_err-d-clause-read
+returns-in_err-d-clause-read c = rw (handed_on _ c.from_residual.ensures) (λ op w. another (Reads _ _ _ _ _) _ _ _ _ _ _ (via (c.expect.ensures ∙ bracket_expected _ _ _) c.in_err-d.was) (refuses refl))
 
-pub returns : goal.returns
-returns c = record { read = λ op w. beyond (Reads _ _ _ _ _) _ _ _ _ _ _ (via (c.expect.ensures ∙ bracket_expected _ _ _) c.in_ok-d.was) (λ m1. widen (omega arith) (c.store_test.ensures.read _ _ (word_row_lem c.args.text.bundle.now op c.args.key c.args.b c.args.store.now.tally.number w))); beside = c.store_test.ensures.beside }
+pub returns-clause-read : goal.returns-clause-read
+returns-clause-read c = λ op w. beyond (Reads _ _ _ _ _) _ _ _ _ _ _ (via (c.expect.ensures ∙ bracket_expected _ _ _) c.in_ok-d.was) (λ m1. widen (omega arith) (c.store_test.ensures.read _ _ (word_row_lem c.args.text.bundle.now op c.args.key c.args.b c.args.store.now.tally.number w)))

@@ -1,4 +1,3 @@
-use Rattle.keep.proofs.Lending.{numbers_beside_tests}
 use mathlib.Core.Path.{◌∙◌}
 use Rattle.base.proofs.Options.{handed_on, or_some, or_none, or_err}
 use Rattle.base.specs.Choice.{via_with}
@@ -6,8 +5,8 @@ use Rattle.keep.proofs.Laws.{room_number, no_room_number}
 use Rattle.keep.specs.Answers.{Reads, refuses}
 use Rattle.tests.proofs.store_number_test.Goals as goal
 
-pub returns-in_err-ok_or : goal.returns-in_err-ok_or
-returns-in_err-ok_or c = rw (handed_on _ c.from_residual.ensures) (record { read = λ bundle y e. no_room_number (Reads _ _ _ _ _) _ c.args.source _ c.args.c _ _ (via_with c.keep_number.ensures.kept (or_none c.ok_or.ensures.ok_part c.in_err-ok_or.was)) (refuses (or_err _ c.ok_or.ensures.value c.in_err-ok_or.was ∙ c.refuse_reached.ensures)); beside = numbers_beside_tests c.keep_number.ensures.beside })
+pub returns-in_err-ok_or-clause-read : goal.returns-in_err-ok_or-clause-read
+returns-in_err-ok_or-clause-read c = rw (handed_on _ c.from_residual.ensures) (λ bundle y e. no_room_number (Reads _ _ _ _ _) _ c.args.source _ c.args.c _ _ (via_with c.keep_number.ensures.kept (or_none c.ok_or.ensures.ok_part c.in_err-ok_or.was)) (refuses (or_err _ c.ok_or.ensures.value c.in_err-ok_or.was ∙ c.refuse_reached.ensures)))
 
-pub returns : goal.returns
-returns c = record { read = λ bundle y e. room_number (Reads _ _ _ _ _) _ c.args.source _ c.args.c _ _ (via_with c.keep_number.ensures.kept (or_some c.ok_or.ensures.ok_part c.in_ok-ok_or.was)) (c.store_test.ensures.read bundle y (e _)); beside = c.store_test.ensures.beside ∙ numbers_beside_tests c.keep_number.ensures.beside }
+pub returns-clause-read : goal.returns-clause-read
+returns-clause-read c = λ bundle y e. room_number (Reads _ _ _ _ _) _ c.args.source _ c.args.c _ _ (via_with c.keep_number.ensures.kept (or_some c.ok_or.ensures.ok_part c.in_ok-ok_or.was)) (c.store_test.ensures.read bundle y (e _))

@@ -1,100 +1,67 @@
-use native.Mathlib.Omega.{arith}
-use mathlib.Core.Path.{sym, ◌∙◌}
+use mathlib.Core.Path.{◌≡◌, ◌∙◌}
 use Rattle.std.proofs.Common.{rules, ap}
-use mathlib.Core.Bool.{not}
-use lib.ListN.{length, length-take, take}
-use borrow.Author.Tests.{not-false, tests}
+use mathlib.Core.Bool.{Bool, true, false}
+use borrow.Author.Tests.{tests}
 use Rattle.std.proofs.lemmas.Iterator.{YieldsList-from_slice}
 use Rattle.std.proofs.lemmas.Iterator.Search.{all_from_yields_List}
 use Rattle.valid.proofs.Room.{counts_room}
-use Rattle.base.specs.Choice.{via, if_true, if_false, clash}
-use Rattle.valid.specs.Valid.{rule_sound, selector_sound, test_sound, property_sound, tables_sound, entries_sound}
+use Rattle.base.specs.Choice.{pick, via, if_true, if_false}
+use Rattle.valid.specs.Valid.{all_below, rule_sound, selector_sound, test_sound, tables_sound, entries_sound}
 use Rattle.valid.proofs.Entries.{rules_are, selectors_are, tests_are, properties_are}
-use Rattle.valid.proofs.is_sound.Goals.{then-all, else-all, then-all-2, else-all-2}
+use Rattle.valid.proofs.is_sound.Goals.{Joined-all-2, then-all, else-all, then-all-2, else-all-2}
 use Rattle.valid.proofs.is_sound.Goals as goal
 
-pub slice_bounds-rules-end : goal.slice_bounds-rules-end
-slice_bounds-rules-end c =
-    let room = counts_room _ _ _ _ _ _ (via c.counts_held.ensures (not-false _ (ap not c.if-not-counts_held.false))) in
-    omega (arith, room.0, c.as_chunks.ensures.front_len, length-take c.args.n.rules c.as_chunks.result.0.now)
+-- what the tables before the properties are found to be
+module _ (c : Joined-all-2) where
+  abbrev rules_good : Bool
+  rules_good = all_below (rule_sound c.args.rules.now c.args.n.selectors c.args.n.properties) c.args.n.rules
 
-pub slice_bounds-selectors-end : goal.slice_bounds-selectors-end
-slice_bounds-selectors-end c =
-    let room = counts_room _ _ _ _ _ _ (via c.counts_held.ensures (not-false _ (ap not c.if-not-counts_held.false))) in
-    omega (arith, room.1, c.as_chunks-2.ensures.front_len, length-take c.args.n.selectors c.as_chunks-2.result.0.now)
+  abbrev selectors_good : Bool
+  selectors_good = all_below (selector_sound c.args.selectors.now c.args.n.tests c.args.bundle) c.args.n.selectors
 
-pub slice_bounds-tests-end : goal.slice_bounds-tests-end
-slice_bounds-tests-end c =
-    let room = counts_room _ _ _ _ _ _ (via c.counts_held.ensures (not-false _ (ap not c.if-not-counts_held.false))) in
-    omega (arith, room.2, c.as_chunks-3.ensures.front_len, length-take c.args.n.tests c.as_chunks-3.result.0.now)
+  abbrev tests_good : Bool
+  tests_good = all_below (test_sound c.args.tests.now c.args.numbers.now c.args.n.numbers c.args.bundle) c.args.n.tests
 
-pub slice_bounds-properties-end : goal.slice_bounds-properties-end
-slice_bounds-properties-end c =
-    let room = counts_room _ _ _ _ _ _ (via c.counts_held.ensures (not-false _ (ap not c.if-not-counts_held.false))) in
-    omega (arith, room.3, c.as_chunks-4.ensures.front_len, length-take c.args.n.properties c.as_chunks-4.result.0.now)
+  three_tables : c.if-all-2.value ≡ pick (pick rules_good selectors_good false) tests_good false
+  three_tables =
+      let room = counts_room _ _ _ _ _ _ (via c.counts_held.ensures c.if-not-counts_held.false) in
+      let one : c.all.result ≡ rules_good =
+      rules_are _ _ room.0 _ c.as_chunks.ensures.front c.as_chunks.ensures.front_len _ _ _ (all_from_yields_List _ _ _ _ c.all.ensures.ran (YieldsList-from_slice _ c.iter.ensures.rest) (λ x b q k. search (rules, tests))) in
+      let two : c.if-all.value ≡ pick rules_good selectors_good false =
+      elim c.if-all.branch [
+        | then-all v ↦
+            if_true _ _ _ (via one v.if-all.true)
+            (v.value-is
+            ∙ selectors_are _ _ room.1 _ c.as_chunks-2.ensures.front c.as_chunks-2.ensures.front_len _ _ _ (all_from_yields_List _ _ _ _ v.all-then-all.ensures.ran (YieldsList-from_slice _ v.iter-then-all.ensures.rest) (λ x b q k. search (rules, tests))))
+        | else-all v ↦ if_false _ _ _ (via one v.if-all.false) (v.value-is ∙ v.if-all.false)
+      ] in
+      elim c.if-all-2.branch [
+        | then-all-2 w ↦
+            if_true _ _ _ (via two w.if-all-2.true)
+            (w.value-is
+            ∙ tests_are _ _ room.2 _ c.as_chunks-3.ensures.front c.as_chunks-3.ensures.front_len _ _ _ _ room.4 (all_from_yields_List _ _ _ _ w.all-then-all-2.ensures.ran (YieldsList-from_slice _ w.iter-then-all-2.ensures.rest) (λ x b q k. search (rules, tests))))
+        | else-all-2 w ↦ if_false _ _ _ (via two w.if-all-2.false) (w.value-is ∙ w.if-all-2.false)
+      ]
 
-pub slice_bounds-numbers-end : goal.slice_bounds-numbers-end
-slice_bounds-numbers-end c =
-    let room = counts_room _ _ _ _ _ _ (via c.counts_held.ensures (not-false _ (ap not c.if-not-counts_held.false))) in
-    omega (arith, room.4, length-take c.args.n.numbers c.args.numbers.now)
+-- tests that are asked one after another, and the last
+and_last : (r s t p : Bool) {v x : Bool} → v ≡ pick (pick r s false) t false → x ≡ pick v p false → x ≡ pick r (pick s (pick t p false) false) false
+unfolding pick
+and_last true true t p e f = f ∙ ap (λ v. pick v p false) e
+and_last true false t p e f = f ∙ ap (λ v. pick v p false) e
+and_last false s t p e f = f ∙ ap (λ v. pick v p false) e
 
 pub returns-then-all-3 : goal.returns-then-all-3
 unfolding tables_sound entries_sound
 returns-then-all-3 c =
-    let held = via c.counts_held.ensures (not-false _ (ap not c.if-not-counts_held.false)) in
-    let room = counts_room _ _ _ _ _ _ held in
-    let yes = c.if-all-3.true in
+    let held = via c.counts_held.ensures c.if-not-counts_held.false in
     if_true _ _ _ held (
-    elim c.if-all-2.branch [
-      | then-all-2 w ↦ elim c.if-all.branch [
-        | then-all v ↦
-            if_true _ _ _
-            (via (rules_are c.args.rules.now c.args.n.rules room.0 _ c.as_chunks.ensures.front c.as_chunks.ensures.front_len _ _ _ (all_from_yields_List (λ e. rule_sound e c.args.n.selectors c.args.n.properties 0) _ _ _ c.all.ensures.ran (YieldsList-from_slice (take c.args.n.rules c.as_chunks.result.0.now) cc) (λ x b q k. search (rules, tests)))) v.if-all.true)
-            (if_true _ _ _
-            (via
-            (selectors_are c.args.selectors.now c.args.n.selectors room.1 _ c.as_chunks-2.ensures.front c.as_chunks-2.ensures.front_len _ _ _ (all_from_yields_List (λ e. selector_sound e c.args.n.tests c.args.bundle 0) _ _ _ v.all-then-all.ensures.ran (YieldsList-from_slice (take c.args.n.selectors c.as_chunks-2.result.0.now) cc) (λ x b q k. search (rules, tests))))
-            (sym v.value-is ∙ w.if-all-2.true))
-            (if_true _ _ _
-            (via
-            (tests_are c.args.tests.now c.args.n.tests room.2 _ c.as_chunks-3.ensures.front c.as_chunks-3.ensures.front_len _ c.args.numbers.now c.args.n.numbers _ room.4 (all_from_yields_List (λ e. test_sound e (take c.args.n.numbers c.args.numbers.now) (length (take c.args.n.numbers c.args.numbers.now)) c.args.bundle 0) _ _ _ w.all-then-all-2.ensures.ran (YieldsList-from_slice (take c.args.n.tests c.as_chunks-3.result.0.now) cc) (λ x b q k. search (rules, tests))))
-            (sym w.value-is ∙ yes))
-            (properties_are c.args.properties.now c.args.n.properties room.3 _ c.as_chunks-4.ensures.front c.as_chunks-4.ensures.front_len _ _ _ (all_from_yields_List (λ e. property_sound e c.args.n.numbers c.args.bundle 0) _ _ _ c.all-then-all-3.ensures.ran (YieldsList-from_slice (take c.args.n.properties c.as_chunks-4.result.0.now) cc) (λ x b q k. search (rules, tests))))))
-        | else-all v ↦ clash w.if-all-2.true (v.value-is ∙ v.if-all.false)
-      ]
-      | else-all-2 w ↦ clash yes (w.value-is ∙ w.if-all-2.false)
-    ])
+    and_last _ _ _ _ (three_tables (goal.at.returns-then-all-3 c).Joined-all-2)
+    (if_true _ _ _ c.if-all-3.true
+    (properties_are _ _ (counts_room _ _ _ _ _ _ held).3 _ c.as_chunks-4.ensures.front c.as_chunks-4.ensures.front_len _ _ _ (all_from_yields_List _ _ _ _ c.all-then-all-3.ensures.ran (YieldsList-from_slice _ c.iter-then-all-3.ensures.rest) (λ x b q k. search (rules, tests))))))
 
 pub returns-else-all-3 : goal.returns-else-all-3
 unfolding tables_sound entries_sound
 returns-else-all-3 c =
-    let held = via c.counts_held.ensures (not-false _ (ap not c.if-not-counts_held.false)) in
-    let room = counts_room _ _ _ _ _ _ held in
-    let no = c.if-all-3.false in
-    if_true _ _ _ held (
-    elim c.if-all.branch [
-      | then-all v ↦
-          if_true _ _ _
-          (via (rules_are c.args.rules.now c.args.n.rules room.0 _ c.as_chunks.ensures.front c.as_chunks.ensures.front_len _ _ _ (all_from_yields_List (λ e. rule_sound e c.args.n.selectors c.args.n.properties 0) _ _ _ c.all.ensures.ran (YieldsList-from_slice (take c.args.n.rules c.as_chunks.result.0.now) cc) (λ x b q k. search (rules, tests)))) v.if-all.true)
-          (elim c.if-all-2.branch [
-            | then-all-2 w ↦
-                if_true _ _ _
-                (via
-                (selectors_are c.args.selectors.now c.args.n.selectors room.1 _ c.as_chunks-2.ensures.front c.as_chunks-2.ensures.front_len _ _ _ (all_from_yields_List (λ e. selector_sound e c.args.n.tests c.args.bundle 0) _ _ _ v.all-then-all.ensures.ran (YieldsList-from_slice (take c.args.n.selectors c.as_chunks-2.result.0.now) cc) (λ x b q k. search (rules, tests))))
-                (sym v.value-is ∙ w.if-all-2.true))
-                (if_false _ _ _
-                (via
-                (tests_are c.args.tests.now c.args.n.tests room.2 _ c.as_chunks-3.ensures.front c.as_chunks-3.ensures.front_len _ c.args.numbers.now c.args.n.numbers _ room.4 (all_from_yields_List (λ e. test_sound e (take c.args.n.numbers c.args.numbers.now) (length (take c.args.n.numbers c.args.numbers.now)) c.args.bundle 0) _ _ _ w.all-then-all-2.ensures.ran (YieldsList-from_slice (take c.args.n.tests c.as_chunks-3.result.0.now) cc) (λ x b q k. search (rules, tests))))
-                (sym w.value-is ∙ no))
-                no)
-            | else-all-2 w ↦
-                if_false _ _ _
-                (via
-                (selectors_are c.args.selectors.now c.args.n.selectors room.1 _ c.as_chunks-2.ensures.front c.as_chunks-2.ensures.front_len _ _ _ (all_from_yields_List (λ e. selector_sound e c.args.n.tests c.args.bundle 0) _ _ _ v.all-then-all.ensures.ran (YieldsList-from_slice (take c.args.n.selectors c.as_chunks-2.result.0.now) cc) (λ x b q k. search (rules, tests))))
-                (sym v.value-is ∙ w.if-all-2.false))
-                no
-          ])
-      | else-all v ↦
-          if_false _ _ _
-          (via (rules_are c.args.rules.now c.args.n.rules room.0 _ c.as_chunks.ensures.front c.as_chunks.ensures.front_len _ _ _ (all_from_yields_List (λ e. rule_sound e c.args.n.selectors c.args.n.properties 0) _ _ _ c.all.ensures.ran (YieldsList-from_slice (take c.args.n.rules c.as_chunks.result.0.now) cc) (λ x b q k. search (rules, tests)))) v.if-all.false)
-          no
-    ])
+    if_true _ _ _ (via c.counts_held.ensures c.if-not-counts_held.false) (
+    and_last _ _ _ _ (three_tables (goal.at.returns-else-all-3 c).Joined-all-2)
+    (if_false _ _ _ c.if-all-3.false c.if-all-3.false))

@@ -1,3 +1,4 @@
+use Rattle.std.specs.Prelude.{⊤}
 use Rattle.properties.proofs.FormLaws.{form_as, next_as, no_more, Is}
 use Rattle.properties.specs.Eval.{sign_form, prop_form, width_form, last_form, form_next}
 use Rattle.properties.specs.declared.Form.TheVariants.{Empty, Opening, PropName, PropOpening, WidthName, PropClosing, Increment}
@@ -10,36 +11,41 @@ use mathlib.Core.Path.{refl}
 use borrow.Enum.Refused.{opened}
 use Rattle.properties.proofs.eval.form_next.Goals as goal
 
-pub returns-in-Empty-LeftParen : goal.returns-in-Empty-LeftParen
+-- what an answer unfolds at a token that is known
+unfoldable by_token : ⊤
 unfolding form_next sign_form prop_form width_form last_form token_of is_sign on_identifier on_string on_number
+by_token = tt
+
+pub returns-in-Empty-LeftParen : goal.returns-in-Empty-LeftParen
+unfolding by_token
 returns-in-Empty-LeftParen c = next_as _ c.in-Empty-LeftParen.is-0 (form_as (form_next Empty) _ c.in-Empty-LeftParen.is-1 refl)
 
 pub returns-in-Opening-Identifier : goal.returns-in-Opening-Identifier
-unfolding form_next sign_form prop_form width_form last_form token_of is_sign on_identifier on_string on_number
+unfolding by_token
 returns-in-Opening-Identifier c = next_as _ c.in-Opening-Identifier.is-0 (form_as (form_next Opening) _ c.in-Opening-Identifier.is-1 c.word_form.ensures)
 
 pub returns-in-PropName-LeftParen : goal.returns-in-PropName-LeftParen
-unfolding form_next sign_form prop_form width_form last_form token_of is_sign on_identifier on_string on_number
+unfolding by_token
 returns-in-PropName-LeftParen c = next_as _ c.in-PropName-LeftParen.is-0 (form_as (form_next PropName) _ c.in-PropName-LeftParen.is-1 refl)
 
 pub returns-in-PropOpening-Text : goal.returns-in-PropOpening-Text
-unfolding form_next sign_form prop_form width_form last_form token_of is_sign on_identifier on_string on_number
+unfolding by_token
 returns-in-PropOpening-Text c = next_as _ c.in-PropOpening-Text.is-0 (form_as (form_next PropOpening) _ c.in-PropOpening-Text.is-1 c.word_form-in-PropOpening-Text.ensures)
 
 pub returns-in-WidthName-RightParen : goal.returns-in-WidthName-RightParen
-unfolding form_next sign_form prop_form width_form last_form token_of is_sign on_identifier on_string on_number
+unfolding by_token
 returns-in-WidthName-RightParen c = next_as _ c.in-WidthName-RightParen.is-0 (form_as (form_next WidthName) _ c.in-WidthName-RightParen.is-1 refl)
 
 pub returns-in-PropClosing-RightParen : goal.returns-in-PropClosing-RightParen
-unfolding form_next sign_form prop_form width_form last_form token_of is_sign on_identifier on_string on_number
+unfolding by_token
 returns-in-PropClosing-RightParen c = next_as _ c.in-PropClosing-RightParen.is-0 (form_as (form_next PropClosing) _ c.in-PropClosing-RightParen.is-1 refl)
 
 pub returns-in-PropClosing-Number : goal.returns-in-PropClosing-Number
-unfolding form_next sign_form prop_form width_form last_form token_of is_sign on_identifier on_string on_number
+unfolding by_token
 returns-in-PropClosing-Number c = next_as _ c.in-PropClosing-Number.is-0 (form_as (form_next PropClosing) _ c.in-PropClosing-Number.is-1 refl)
 
 pub returns-in-Increment-RightParen : goal.returns-in-Increment-RightParen
-unfolding form_next sign_form prop_form width_form last_form token_of is_sign on_identifier on_string on_number
+unfolding by_token
 returns-in-Increment-RightParen c = next_as _ c.in-Increment-RightParen.is-0 (form_as (form_next (Increment _)) _ c.in-Increment-RightParen.is-1 refl)
 
 pub returns-in_default : goal.returns-in_default
@@ -64,7 +70,10 @@ returns-in_default-5 c = next_as _ c.in_default.is-0 (cond_false _ _ _ (not_sign
 
 pub returns-in_default-6 : goal.returns-in_default-6
 unfolding form_next last_form
-returns-in_default-6 c = next_as _ c.in_default.is-0 (cond_false _ _ _ (not_sign _ (8 ∷ 3 ∷ []) _ (opened c.in_default.in_default-own.keys3) right_paren tt) (not_number_lem _ (8 ∷ 3 ∷ []) _ (opened c.in_default.in_default-own.keys3) (Is _) _ _ tt refl))
+returns-in_default-6 c =
+    let taken = 8 ∷ 3 ∷ [] in
+    let own = opened c.in_default.in_default-own.keys3 in
+    next_as _ c.in_default.is-0 (cond_false _ _ _ (not_sign _ taken _ own right_paren tt) (not_number_lem _ taken _ own (Is _) _ _ tt refl))
 
 pub returns-in_default-7 : goal.returns-in_default-7
 unfolding form_next sign_form

@@ -1,4 +1,6 @@
-use Rattle.properties.proofs.FormLaws.{form_none, form_last, form_more, semicolon_is}
+use Rattle.properties.proofs.FormLaws.{form_none, form_last, form_more}
+use Rattle.input.proofs.TokenLaws.{sign_same}
+use Rattle.grammar.specs.Token.{semi_colon}
 use Rattle.input.proofs.Fuel.{mandatory_moves}
 use Rattle.base.specs.Choice.{via}
 use native.Mathlib.Omega.{arith}
@@ -13,10 +15,10 @@ pub returns-in_err-t : goal.returns-in_err-t
 returns-in_err-t c = rw (handed_on _ c.from_residual.ensures) (c.loop-t.invariant.1 _ (form_none _ _ _ _ _ (via c.read_mandatory_token.ensures c.in_err-t.was)))
 
 pub returns-then-eq : goal.returns-then-eq
-returns-then-eq c = c.loop-t.invariant.1 _ (form_last _ _ _ _ _ (via c.read_mandatory_token.ensures c.in_ok-t.was) (semicolon_is _ _ c.eq.ensures ∙ c.if-eq.true) c.loop-t.invariant.0)
+returns-then-eq c = c.loop-t.invariant.1 _ (form_last _ _ _ _ _ (via c.read_mandatory_token.ensures c.in_ok-t.was) (sign_same _ semi_colon _ ∙ via c.eq.ensures c.if-eq.true) c.loop-t.invariant.0)
 
 pub loop-t-smaller : goal.loop-t-smaller
 loop-t-smaller c = mandatory_moves _ _ _ _ _ _ (via c.read_mandatory_token.ensures c.in_ok-t.was)
 
 pub loop-t-preserved : goal.loop-t-preserved
-loop-t-preserved c = let h = via c.read_mandatory_token.ensures c.in_ok-t.was in (omega (arith, mandatory_moves _ _ _ _ _ _ h, c.loop-t.invariant.0), λ r q. c.loop-t.invariant.1 r (form_more _ _ _ _ _ r h (semicolon_is _ _ c.eq.ensures ∙ c.if-eq.false) c.form_next-f.ensures q))
+loop-t-preserved c = let h = via c.read_mandatory_token.ensures c.in_ok-t.was in (omega (arith, mandatory_moves _ _ _ _ _ _ h, c.loop-t.invariant.0), λ r q. c.loop-t.invariant.1 r (form_more _ _ _ _ _ r h (sign_same _ semi_colon _ ∙ via c.eq.ensures c.if-eq.false) c.form_next-f.ensures q))

@@ -6,14 +6,14 @@ use mathlib.Core.Path.{refl}
 use Rattle.properties.proofs.eval.read_simple_eval.Goals as goal
 use Rattle.base.proofs.Options.{handed_on}
 
-pub returns-in_err-f : goal.returns-in_err-f
+pub returns-in_err-f-clause-read : goal.returns-in_err-f-clause-read
 unfolding read_simple_eval
-returns-in_err-f c = rw (handed_on _ c.from_residual.ensures) (record { read = λ k h. eval_refused (Values _ _ _ _ _) _ _ _ _ _ (c.read_form.ensures _ k h) c.in_err-f.was (bad_value refl); beside = refl })
+returns-in_err-f-clause-read c = rw (handed_on _ c.from_residual.ensures) (λ k h. eval_refused (Values _ _ _ _ _) _ _ _ _ _ (c.read_form.ensures _ k h) c.in_err-f.was (bad_value refl))
 
-pub returns-in-Whole : goal.returns-in-Whole
+pub returns-in-Whole-clause-read : goal.returns-in-Whole-clause-read
 unfolding read_simple_eval
-returns-in-Whole c = record { read = λ k h. eval_made (Values _ _ _ _ _) _ _ _ _ _ (c.read_form.ensures _ k h) c.in_ok-f.was c.in-Whole.is (λ l. widen_value l (c.store_delta.ensures.read _)); beside = c.store_delta.ensures.beside }
+returns-in-Whole-clause-read c = λ k h. eval_made (Values _ _ _ _ _) _ _ _ _ _ (c.read_form.ensures _ k h) c.in_ok-f.was c.in-Whole.is (λ l. widen_value l (c.store_delta.ensures.read _))
 
-pub returns-in_default : goal.returns-in_default
+pub returns-in_default-clause-read : goal.returns-in_default-clause-read
 unfolding read_simple_eval
-returns-in_default c = record { read = λ k h. eval_unmade (Values _ _ _ _ _) _ _ _ _ _ (c.read_form.ensures _ k h) c.in_ok-f.was c.in_default.not-Whole (bad_value c.refuse.ensures); beside = refl }
+returns-in_default-clause-read c = λ k h. eval_unmade (Values _ _ _ _ _) _ _ _ _ _ (c.read_form.ensures _ k h) c.in_ok-f.was c.in_default.not-Whole (bad_value c.refuse.ensures)

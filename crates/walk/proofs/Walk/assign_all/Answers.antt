@@ -5,13 +5,14 @@ use Rattle.walk.specs.Rows.{numbers_in}
 use Rattle.walk.specs.Run.{assign_at, assign_all, going}
 use Rattle.walk.specs.Walking.{names}
 use Rattle.walk.specs.declared.Walk.{Walk}
-use Rattle.walk.proofs.LayerLaws.{all_end, all_stop, all_next, less_zero, told_stop}
+use Rattle.std.proofs.Math.Nat.{sub-zero}
+use Rattle.walk.proofs.LayerLaws.{all_end, all_stop, all_next, told_stop}
 use Rattle.walk.proofs.WalkLaws.{as_given}
 use Rattle.walk.proofs.Walk.assign_all.Goals as goal
 
 pub loop-i-init : goal.loop-i-init
 loop-i-init c = let w = c.args.self.now in
-    (ap (λ k. assign_all (names w) w.rows.now w.count 0 k (numbers_in c.args.ps)) (less_zero w.count), (refl, refl))
+    (ap (λ k. assign_all (names w) w.rows.now w.count 0 k (numbers_in c.args.ps)) (sub-zero w.count), (refl, refl))
 
 pub returns-in_err-assign : goal.returns-in_err-assign
 returns-in_err-assign c =

@@ -1,14 +1,15 @@
 use mathlib.Core.Path.{refl, sym, ◌∙◌, ap}
 use Rattle.base.proofs.Options.{handed_on}
 use Rattle.walk.proofs.WalkLaws.{rules_end, rules_stop, rules_next, as_given, same_rows}
-use Rattle.walk.proofs.LayerLaws.{less_zero, told_stop}
+use Rattle.std.proofs.Math.Nat.{sub-zero}
+use Rattle.walk.proofs.LayerLaws.{told_stop}
 use Rattle.walk.specs.Run.{rule_of, rules_of}
 use Rattle.walk.specs.Walking.{names, layers, verdicts}
 use Rattle.walk.proofs.Walk.rules.Goals as goal
 
 pub loop-r-init : goal.loop-r-init
 loop-r-init c = let w = c.args.self.now in
-    (ap (rules_of (names w) (layers w) (verdicts w) w.tables.now.rules.now w.rows.now w.count 0) (less_zero c.args.total), refl)
+    (ap (rules_of (names w) (layers w) (verdicts w) w.tables.now.rules.now w.rows.now w.count 0) (sub-zero c.args.total), refl)
 
 pub returns-in_err-rule : goal.returns-in_err-rule
 returns-in_err-rule c =

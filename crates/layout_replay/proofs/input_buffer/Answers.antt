@@ -1,8 +1,0 @@
--- The buffer has the length that its type says.
-use Prim.Native.Nat.{ℕ}
-use mathlib.Core.Path.{sym}
-use lib.ListN.{length-replicate}
-use Rattle.layout_replay.proofs.input_buffer.Goals as goal
-
-pub returns : goal.returns
-returns c = sym (length-replicate {0} {A = ℕ} 1048640 0)
