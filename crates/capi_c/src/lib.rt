@@ -12,6 +12,8 @@ ghost use Rattle.settings.specs.Settings.{counts_at, type_of, settings_of};
 ghost use Rattle.answers.specs.Answers.{told_canvas};
 ghost use Rattle.capi.specs.Answered.{Told, LoadAnswered, MapsAnswered, StylesAnswered, ListAnswered};
 
+use walk::maps::Maps;
+
 #[unsafe(no_mangle)]
 pub extern "C" fn mapcss_load(
     bundle: &[u8],
@@ -41,7 +43,7 @@ pub extern "C" fn mapcss_property_maps(
     counts: &[u64],
     zoom: u8,
     entity: &[u8],
-    maps: &mut [u32; 4323],
+    maps: &mut Maps,
     out: &mut [u64],
 ) -> u64
     ensures { MapsAnswered (maps_of bundle.now rules.now selectors.now tests.now properties.now numbers.now (counts_at counts.now) zoom entity.now) result maps.new out.old out.new }

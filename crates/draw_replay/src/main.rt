@@ -2,7 +2,7 @@
 // them. It prints the number of each case that differs, then the totals.
 #![tactic(auto)]
 
-ghost use Rattle.std.specs.Prelude.{◌≡◌, ◌+◌, ◌≤◌, ◌<◌, length, IfSome};
+ghost use Rattle.std.specs.Prelude.{◌≤◌, ◌<◌, length, IfSome};
 
 use base::{Range, byte_at, part};
 use capi::{mapcss_load, mapcss_style_areas, mapcss_style_entities};
@@ -11,7 +11,7 @@ use stdio::cases::{count_at, ends_at, float_at, is_told, piece_at, replay, short
 use table::Tables;
 
 // What out holds before.
-const UNSET: u64 = 18446744073709551615;
+const UNSET: u64 = u64::MAX;
 
 fn main(rt: HostRuntime) -> io::Result<()> {
     replay(&mut rt.stdin(), &mut rt.stdout(), case_at)
@@ -57,12 +57,12 @@ fn are_areas(settings: &[u8]) -> bool {
 
 // Whether the bundle loads, the list is as the case says, and what stands behind the words lent has stayed.
 fn agrees(bundle: &[u8], settings: &[u8], first: &[u8], second: &[u8], answer: &[u8]) -> bool {
-    let mut rules = [4294967295u32; 4096];
-    let mut selectors = [4294967295u32; 4096];
-    let mut tests = [4294967295u32; 4096];
-    let mut properties = [4294967295u32; 4096];
+    let mut rules = [u32::MAX; 4096];
+    let mut selectors = [u32::MAX; 4096];
+    let mut tests = [u32::MAX; 4096];
+    let mut properties = [u32::MAX; 4096];
     let mut numbers = [1.5f64; 512];
-    let mut colors = [4294967295u32; 4096];
+    let mut colors = [u32::MAX; 4096];
     let mut counts = [UNSET; 6];
     let number = mapcss_load(
         bundle,
@@ -74,7 +74,7 @@ fn agrees(bundle: &[u8], settings: &[u8], first: &[u8], second: &[u8], answer: &
         &mut colors,
         &mut counts,
     );
-    let mut list = [4294967295u32; 16384];
+    let mut list = [u32::MAX; 16384];
     let lent = short_at(settings, 13).min(16384);
     let tables = Tables {
         bundle,
@@ -94,7 +94,7 @@ fn agrees(bundle: &[u8], settings: &[u8], first: &[u8], second: &[u8], answer: &
             &mut list[..lent],
             answer,
         )
-        && list[lent..].iter().all(|&w| w == 4294967295)
+        && list[lent..].iter().all(|&w| w == u32::MAX)
 }
 
 fn lists_as(

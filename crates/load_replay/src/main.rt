@@ -2,7 +2,7 @@
 // words of all six tables included. It prints the number of each case that differs, then the totals.
 #![tactic(auto)]
 
-ghost use Rattle.std.specs.Prelude.{◌≡◌, ◌+◌, ◌≤◌, ◌<◌, length, IfSome};
+ghost use Rattle.std.specs.Prelude.{◌≤◌, ◌<◌, length, IfSome};
 
 use base::{Range, part};
 use capi::mapcss_load;
@@ -33,12 +33,12 @@ fn case_at(s: &[u8], at: usize) -> Option<(usize, bool)>
 
 // Whether the loader answers as the case says. What is lent holds something else before.
 fn agrees(bundle: &[u8], lent: &[u8], answer: &[u8]) -> bool {
-    let mut rules = [4294967295u32; 4096];
-    let mut selectors = [4294967295u32; 4096];
-    let mut tests = [4294967295u32; 4096];
-    let mut properties = [4294967295u32; 4096];
+    let mut rules = [u32::MAX; 4096];
+    let mut selectors = [u32::MAX; 4096];
+    let mut tests = [u32::MAX; 4096];
+    let mut properties = [u32::MAX; 4096];
     let mut numbers = [1.5f64; 512];
-    let mut colors = [4294967295u32; 4096];
+    let mut colors = [u32::MAX; 4096];
     let a = short_at(lent, 0).min(4096);
     let b = short_at(lent, 2).min(4096);
     let c = short_at(lent, 4).min(4096);
@@ -67,7 +67,7 @@ fn loads_as(
     colors: &mut [u32],
     answer: &[u8],
 ) -> bool {
-    let mut out = [18446744073709551615u64; 6];
+    let mut out = [u64::MAX; 6];
     let number = mapcss_load(
         bundle, rules, selectors, tests, properties, numbers, colors, &mut out,
     );

@@ -10,6 +10,7 @@ use base::Range;
 use base::refusal::{BUNDLE_LAYOUT, Refusal};
 use table::Tables;
 use valid::Counts;
+use walk::maps::{Maps, ROW};
 
 // The tables that plate reads with: 512 entries each, and 33 rows of maps.
 #[derive(Drop)]
@@ -20,7 +21,7 @@ pub struct Buffers {
     pub properties: [u32; 4096],
     pub numbers: [f64; 512],
     pub colors: [u32; 4096],
-    pub maps: [u32; 4323],
+    pub maps: Maps,
 }
 
 impl Buffers {
@@ -34,7 +35,7 @@ impl Buffers {
             properties: [0; 4096],
             numbers: [0.0; 512],
             colors: [0; 4096],
-            maps: [0; 4323],
+            maps: [0; 33 * ROW],
         }
     }
 

@@ -10,6 +10,7 @@ use stdio::cases::bits_of;
 use stdio::line;
 use table::{PropertyValue, Tables};
 use valid::Counts;
+use walk::maps::{Maps, ROW};
 
 // Properties or a style written out: what they hold, and no place in a bundle or a table. 127 words are too much.
 #[derive(Clone, Copy, PartialEq)]
@@ -76,8 +77,6 @@ impl Words {
     }
 }
 
-type Maps = [u32; 4323];
-
 // What a sheet and an entity give.
 #[derive(Clone, Copy)]
 struct Given {
@@ -130,7 +129,7 @@ fn ask(bundle: &[u8], entity: &[u8]) -> Given {
     let mut p = [0u32; 4096];
     let mut x = [0.0f64; 512];
     let mut q = [0u32; 4096];
-    let mut m = [0u32; 4323];
+    let mut m = [0u32; 33 * ROW];
     let l = parser::load(bundle, &mut r, &mut s, &mut t, &mut p, &mut x, &mut q);
     let n = l.map(Counts::from).unwrap_or_default();
     let tables = Tables {

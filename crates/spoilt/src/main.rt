@@ -1,7 +1,6 @@
 // A sheet through the exports, as it was loaded and with a word of its tables or a count spoilt: what each call answers.
 #![tactic(auto)]
 
-use base::word_at;
 use capi::{
     mapcss_canvas_color, mapcss_load, mapcss_property_maps, mapcss_style_areas,
     mapcss_style_entities, mapcss_styles,
@@ -166,7 +165,7 @@ fn ask_areas<W: Write>(to: &mut W, l: &Loaded, zoom: u8) -> io::Result<()> {
         &mut out,
     );
     told(to, b"areas", a, &out)?;
-    line(to, b"first entry's stream", u64::from(word_at(&list, 0)))
+    line(to, b"first entry's stream", u64::from(list[0]))
 }
 
 fn told<W: Write>(to: &mut W, name: &[u8], answer: u64, out: &[u64; 5]) -> io::Result<()> {

@@ -2,7 +2,7 @@
 // floats and tags of each layer included. It prints the number of each case that differs, then the totals.
 #![tactic(auto)]
 
-ghost use Rattle.std.specs.Prelude.{◌≡◌, ◌+◌, ◌≤◌, ◌<◌, length, IfSome};
+ghost use Rattle.std.specs.Prelude.{◌≤◌, ◌<◌, length, IfSome};
 
 use base::{Range, byte_at, part};
 use capi::{mapcss_load, mapcss_styles};
@@ -11,7 +11,7 @@ use stdio::cases::{bits_of, ends_at, float_at, is_told, long_at, piece_at, repla
 use table::Tables;
 
 // What out holds before.
-const UNSET: u64 = 18446744073709551615;
+const UNSET: u64 = u64::MAX;
 
 fn main(rt: HostRuntime) -> io::Result<()> {
     replay(&mut rt.stdin(), &mut rt.stdout(), case_at)
@@ -40,12 +40,12 @@ fn case_at(s: &[u8], at: usize) -> Option<(usize, bool)>
 
 // Whether the bundle loads, and the styler answers as the case says.
 fn agrees(bundle: &[u8], settings: &[u8], entity: &[u8], answer: &[u8]) -> bool {
-    let mut rules = [4294967295u32; 4096];
-    let mut selectors = [4294967295u32; 4096];
-    let mut tests = [4294967295u32; 4096];
-    let mut properties = [4294967295u32; 4096];
+    let mut rules = [u32::MAX; 4096];
+    let mut selectors = [u32::MAX; 4096];
+    let mut tests = [u32::MAX; 4096];
+    let mut properties = [u32::MAX; 4096];
     let mut numbers = [1.5f64; 512];
-    let mut colors = [4294967295u32; 4096];
+    let mut colors = [u32::MAX; 4096];
     let mut counts = [UNSET; 6];
     let number = mapcss_load(
         bundle,
