@@ -7,37 +7,44 @@ ghost use Rattle.std.specs.Prelude.{◌≤◌, ◌<◌, length, IfSome};
 use base::{Range, byte_at, part};
 use capi::{mapcss_load, mapcss_style_areas, mapcss_style_entities};
 use std::io;
-use stdio::cases::{count_at, ends_at, float_at, is_told, piece_at, replay, short_at, words_are};
+use stdio::cases::{
+    Case, count_at, ends_at, float_at, is_told, piece_at, replay, short_at, words_are,
+};
+use stdio::zeros;
 use table::Tables;
 
 // What out holds before.
 const UNSET: u64 = u64::MAX;
 
 fn main(rt: HostRuntime) -> io::Result<()> {
-    replay(&mut rt.stdin(), &mut rt.stdout(), case_at)
+    let mut room = zeros::<524288>();
+    replay(&mut room, &mut rt.stdin(), &mut rt.stdout(), &Lists)
 }
 
-// Where the next case starts, and whether this one agrees; nothing if the file ends in it.
-fn case_at(s: &[u8], at: usize) -> Option<(usize, bool)>
-    requires { at < length s.now }
-    ensures { IfSome result (λ r. (at < r.0) × (r.0 ≤ length s.now)) }
-{
-    let bundle = piece_at(s, at)?;
-    let settings = Range {
-        from: bundle.to,
-        to: bundle.to + 15,
-    };
-    let first = piece_at(s, settings.to)?;
-    let second = second_at(s, part(s, settings), first.to)?;
-    let answer = piece_at(s, second.to)?;
-    let agrees = agrees(
-        part(s, bundle),
-        part(s, settings),
-        part(s, first),
-        part(s, second),
-        part(s, answer),
-    );
-    Some((answer.to, agrees))
+// Stored drawing lists.
+struct Lists;
+
+impl Case for Lists {
+    ghost answers = { λ _ s at r. IfSome r (λ e. (at < e.0) × (e.0 ≤ length s)) };
+
+    fn at(&self, s: &[u8], at: usize) -> Option<(usize, bool)> {
+        let bundle = piece_at(s, at)?;
+        let settings = Range {
+            from: bundle.to,
+            to: bundle.to + 15,
+        };
+        let first = piece_at(s, settings.to)?;
+        let second = second_at(s, part(s, settings), first.to)?;
+        let answer = piece_at(s, second.to)?;
+        let agrees = agrees(
+            part(s, bundle),
+            part(s, settings),
+            part(s, first),
+            part(s, second),
+            part(s, answer),
+        );
+        Some((answer.to, agrees))
+    }
 }
 
 // Only areas have a second stream.

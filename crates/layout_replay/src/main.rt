@@ -8,33 +8,40 @@ use base::refusal::Refusal;
 use base::{Range, byte_at, part};
 use entity::{EntityRange, Sort, StreamPlace};
 use std::io;
-use stdio::cases::{piece_at, replay, word_at};
+use stdio::cases::{Case, piece_at, replay, word_at};
 use stdio::zeros;
 
 fn main(rt: HostRuntime) -> io::Result<()> {
-    replay(&mut rt.stdin(), &mut rt.stdout(), case_at)
+    let mut room = zeros::<65536>();
+    replay(&mut room, &mut rt.stdin(), &mut rt.stdout(), &Layouts)
 }
 
-// Where the next case starts, and whether this one agrees; nothing if the file ends in it.
-fn case_at(s: &[u8], at: usize) -> Option<(usize, bool)>
-    requires { at < length s.now }
-    ensures { IfSome result (λ r. (at < r.0) × (r.0 ≤ length s.now)) }
-{
-    let prefix = piece_at(s, at + 1)?;
-    let words = prefix.to + 6;
-    let end = words + 4 * usize::from(byte_at(s, prefix.to + 5));
-    if s.len() < end {
-        return None;
+// Stored layouts.
+struct Layouts;
+
+impl Case for Layouts {
+    ghost answers = { λ _ s at r. IfSome r (λ e. (at < e.0) × (e.0 ≤ length s)) };
+
+    fn at(&self, s: &[u8], at: usize) -> Option<(usize, bool)> {
+        if s.len() <= at {
+            return None;
+        }
+        let prefix = piece_at(s, at + 1)?;
+        let words = prefix.to + 6;
+        let end = words + 4 * usize::from(byte_at(s, prefix.to + 5));
+        if s.len() < end {
+            return None;
+        }
+        let mut input = zeros::<1048640>();
+        let n = fill_input(
+            &mut input,
+            part(s, prefix),
+            byte_at(s, prefix.to),
+            word_at(s, prefix.to + 1),
+        );
+        let given = part(&input, Range { from: 0, to: n });
+        Some((end, answers(s[at], given, &s[words..end])))
     }
-    let mut input = zeros::<1048640>();
-    let n = fill_input(
-        &mut input,
-        part(s, prefix),
-        byte_at(s, prefix.to),
-        word_at(s, prefix.to + 1),
-    );
-    let given = part(&input, Range { from: 0, to: n });
-    Some((end, answers(s[at], given, &s[words..end])))
 }
 
 // The input of a case: its prefix, then the fill byte so many times. Answers its length.

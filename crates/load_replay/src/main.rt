@@ -8,27 +8,32 @@ use base::{Range, part};
 use capi::mapcss_load;
 use std::io;
 use stdio::cases::{
-    bits_of, count_at, ends_at, is_byte, is_refusal, is_short, long_at, piece_at, replay, short_at,
-    words_are,
+    Case, bits_of, count_at, ends_at, is_byte, is_refusal, is_short, long_at, piece_at, replay,
+    short_at, words_are,
 };
+use stdio::zeros;
 
 fn main(rt: HostRuntime) -> io::Result<()> {
-    replay(&mut rt.stdin(), &mut rt.stdout(), case_at)
+    let mut room = zeros::<524288>();
+    replay(&mut room, &mut rt.stdin(), &mut rt.stdout(), &Loads)
 }
 
-// Where the next case starts, and whether this one agrees; nothing if the file ends in it.
-fn case_at(s: &[u8], at: usize) -> Option<(usize, bool)>
-    requires { at < length s.now }
-    ensures { IfSome result (λ r. (at < r.0) × (r.0 ≤ length s.now)) }
-{
-    let bundle = piece_at(s, at)?;
-    let lent = Range {
-        from: bundle.to,
-        to: bundle.to + 12,
-    };
-    let answer = piece_at(s, lent.to)?;
-    let agrees = agrees(part(s, bundle), part(s, lent), part(s, answer));
-    Some((answer.to, agrees))
+// Stored loads.
+struct Loads;
+
+impl Case for Loads {
+    ghost answers = { λ _ s at r. IfSome r (λ e. (at < e.0) × (e.0 ≤ length s)) };
+
+    fn at(&self, s: &[u8], at: usize) -> Option<(usize, bool)> {
+        let bundle = piece_at(s, at)?;
+        let lent = Range {
+            from: bundle.to,
+            to: bundle.to + 12,
+        };
+        let answer = piece_at(s, lent.to)?;
+        let agrees = agrees(part(s, bundle), part(s, lent), part(s, answer));
+        Some((answer.to, agrees))
+    }
 }
 
 // Whether the loader answers as the case says. What is lent holds something else before.

@@ -7,22 +7,26 @@ ghost use Rattle.std.specs.Prelude.{◌≤◌, ◌<◌, length, IfSome};
 use base::{Range, part};
 use printing::Buffers;
 use std::io;
-use stdio::cases::{piece_at, replay};
+use stdio::cases::{Case, piece_at, replay};
 use stdio::zeros;
 use table::Tables;
 
 fn main(rt: HostRuntime) -> io::Result<()> {
-    replay(&mut rt.stdin(), &mut rt.stdout(), case_at)
+    let mut room = zeros::<524288>();
+    replay(&mut room, &mut rt.stdin(), &mut rt.stdout(), &Plates)
 }
 
-// Where the next case starts, and whether this one agrees; nothing if the file ends in it.
-fn case_at(s: &[u8], at: usize) -> Option<(usize, bool)>
-    requires { at < length s.now }
-    ensures { IfSome result (λ r. (at < r.0) × (r.0 ≤ length s.now)) }
-{
-    let input = piece_at(s, at)?;
-    let output = piece_at(s, input.to)?;
-    Some((output.to, agrees(part(s, input), part(s, output))))
+// Stored inputs and outputs of plate.
+struct Plates;
+
+impl Case for Plates {
+    ghost answers = { λ _ s at r. IfSome r (λ e. (at < e.0) × (e.0 ≤ length s)) };
+
+    fn at(&self, s: &[u8], at: usize) -> Option<(usize, bool)> {
+        let input = piece_at(s, at)?;
+        let output = piece_at(s, input.to)?;
+        Some((output.to, agrees(part(s, input), part(s, output))))
+    }
 }
 
 // Whether plate prints this output. What is lent holds something else before.

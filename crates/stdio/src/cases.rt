@@ -1,37 +1,38 @@
 // What the programs share that replay a case file: its numbers, lowest byte first, and what they print of a case.
 
-ghost use Rattle.std.specs.Prelude.{◌≡◌, ◌≤◌, ◌<◌, ℕ, Bool, Some, IfSome, length, get_or, eqb, cond, ltb, ◌&&◌, ◌+◌, ◌*◌, IfOk, OnOk, ◌++◌};
+ghost use Rattle.std.specs.Prelude.{◌≡◌, ◌≤◌, ◌<◌, ℕ, Bool, List, Option, IfSome, length, get_or, eqb, cond, ltb, ◌&&◌, ◌+◌, ◌*◌, IfOk, OnOk, ◌++◌};
 ghost use Rattle.std.specs.Float.{binary64};
 ghost use Rattle.std.specs.Io.KnownBytes.{Appends, Consumes};
 ghost use Rattle.std.specs.Float.Ieee.{of_bits, to_bits};
 ghost use Rattle.stdio.specs.Cases.{short, word, long, named, Ran, Replayed, piece, entry, are_words, refusal, counted};
 
-use crate::{line, read_full, zeros};
+use crate::{line, read_full};
 use base::{Range, at_or};
 use std::io;
 use std::io::{Read, Write};
 
-// Replays the cases of an input: one closure reads and answers the case at a place, as `run_all` asks for it.
-pub fn replay<R: Read, W: Write, F: Fn(&[u8], usize) -> Option<(usize, bool)>>(
+// What a program replays. Of a case file and a place in it, it answers where the next case starts and whether this one agrees; nothing
+// where the file ends in the case, or before it.
+pub trait Case {
+    ghost answers: { Self → List ℕ → ℕ → Option (ℕ × Bool) → Type 0 };
+
+    fn at(&self, s: &[u8], i: usize) -> Option<(usize, bool)>
+        ensures answers { Self.answers self.now s.now i result }
+        ensures forward { IfSome result (λ r. (i < r.0) × (r.0 ≤ length s.now)) };
+}
+
+// Replays the cases of an input, as many bytes of it as there is room, as `run_all` does.
+pub fn replay<R: Read, W: Write, C: Case>(
+    room: &mut [u8],
     from: &mut R,
     out: &mut W,
-    case_at: F,
+    case: &C,
 ) -> io::Result<()>
-    requires callable { (s : _) (at : ℕ) → at < length s.now → F.pre case_at s at }
-    requires forward { (s : _) (at end : ℕ) (agrees : Bool) → at < length s.now → F.post case_at s at (Some (end, agrees)) → (at < end) × (end ≤ length s.now) }
-    ensures { OnOk result (Replayed (λ s. s.now) (λ s at r. F.post case_at s at r) (λ b. Consumes (R.remaining from.old) (R.remaining from.new) b) (λ b. (before : _) × Appends before (W.contents out.new) b)) }
+    ensures { OnOk result (Replayed (λ s. s) (C.answers case.now) (λ b. Consumes (R.remaining from.old) (R.remaining from.new) b) (λ b. (before : _) × Appends before (W.contents out.new) b)) }
 {
-    let mut room = zeros::<524288>();
-    let n = read_full(from, &mut room)?;
+    let n = read_full(from, room)?;
     let cases = &room[..n];
-    let t = run_all(
-        out,
-        cases.len(),
-        |at|
-            requires { F.pre case_at cases at }
-            ensures { F.post case_at cases.entry at result }
-        { case_at(cases, at) },
-    )?;
+    let t = run_all(out, cases, case)?;
     totals(out, t)
 }
 
@@ -42,26 +43,19 @@ pub struct Tally {
     pub bad: u64,
 }
 
-// Runs the cases of so many bytes one after another, and prints the number of each that differs. A case answers where the next one
-// starts, and whether it agrees; one that the file ends in answers nothing.
-pub fn run_all<W: Write, F: Fn(usize) -> Option<(usize, bool)>>(
-    out: &mut W,
-    size: usize,
-    case_at: F,
-) -> io::Result<Tally>
-    requires callable { (at : ℕ) → at < size → F.pre case_at at }
-    requires forward { (at end : ℕ) (agrees : Bool) → at < size → F.post case_at at (Some (end, agrees)) → (at < end) × (end ≤ size) }
-    ensures { IfOk result (λ t. Ran (λ at r. F.post case_at at r) size size t.run t.bad) }
+// Runs the cases of a file one after another, and prints the number of each that differs. One that the file ends in is the last.
+pub fn run_all<W: Write, C: Case>(out: &mut W, s: &[u8], case: &C) -> io::Result<Tally>
+    ensures { IfOk result (λ t. Ran (C.answers case.now s.now) (length s.now) (length s.now) t.run t.bad) }
 {
     let mut at = 0;
     let mut run: u64 = 0;
     let mut bad: u64 = 0;
-    while at < size {
-        at = match case_at(at) {
+    while at < s.len() {
+        at = match case.at(s, at) {
             None => {
                 line(out, b"broken case", run)?;
                 bad += 1;
-                size
+                s.len()
             }
             Some((end, true)) => end,
             Some((end, false)) => {

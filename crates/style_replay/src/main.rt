@@ -7,35 +7,40 @@ ghost use Rattle.std.specs.Prelude.{◌≤◌, ◌<◌, length, IfSome};
 use base::{Range, byte_at, part};
 use capi::{mapcss_load, mapcss_styles};
 use std::io;
-use stdio::cases::{bits_of, ends_at, float_at, is_told, long_at, piece_at, replay, word_at};
+use stdio::cases::{Case, bits_of, ends_at, float_at, is_told, long_at, piece_at, replay, word_at};
+use stdio::zeros;
 use table::Tables;
 
 // What out holds before.
 const UNSET: u64 = u64::MAX;
 
 fn main(rt: HostRuntime) -> io::Result<()> {
-    replay(&mut rt.stdin(), &mut rt.stdout(), case_at)
+    let mut room = zeros::<524288>();
+    replay(&mut room, &mut rt.stdin(), &mut rt.stdout(), &Styles)
 }
 
-// Where the next case starts, and whether this one agrees; nothing if the file ends in it.
-fn case_at(s: &[u8], at: usize) -> Option<(usize, bool)>
-    requires { at < length s.now }
-    ensures { IfSome result (λ r. (at < r.0) × (r.0 ≤ length s.now)) }
-{
-    let bundle = piece_at(s, at)?;
-    let settings = Range {
-        from: bundle.to,
-        to: bundle.to + 11,
-    };
-    let entity = piece_at(s, settings.to)?;
-    let answer = piece_at(s, entity.to)?;
-    let agrees = agrees(
-        part(s, bundle),
-        part(s, settings),
-        part(s, entity),
-        part(s, answer),
-    );
-    Some((answer.to, agrees))
+// Stored styles.
+struct Styles;
+
+impl Case for Styles {
+    ghost answers = { λ _ s at r. IfSome r (λ e. (at < e.0) × (e.0 ≤ length s)) };
+
+    fn at(&self, s: &[u8], at: usize) -> Option<(usize, bool)> {
+        let bundle = piece_at(s, at)?;
+        let settings = Range {
+            from: bundle.to,
+            to: bundle.to + 11,
+        };
+        let entity = piece_at(s, settings.to)?;
+        let answer = piece_at(s, entity.to)?;
+        let agrees = agrees(
+            part(s, bundle),
+            part(s, settings),
+            part(s, entity),
+            part(s, answer),
+        );
+        Some((answer.to, agrees))
+    }
 }
 
 // Whether the bundle loads, and the styler answers as the case says.

@@ -7,20 +7,25 @@ ghost use Rattle.std.specs.Prelude.{◌≤◌, ◌<◌, length, IfSome};
 use base::part;
 use capi_token::mapcss_next_token;
 use std::io;
-use stdio::cases::{bits_of, is_byte, is_long, is_short, piece_at, replay};
+use stdio::cases::{Case, bits_of, is_byte, is_long, is_short, piece_at, replay};
+use stdio::zeros;
 
 fn main(rt: HostRuntime) -> io::Result<()> {
-    replay(&mut rt.stdin(), &mut rt.stdout(), case_at)
+    let mut room = zeros::<524288>();
+    replay(&mut room, &mut rt.stdin(), &mut rt.stdout(), &Tokens)
 }
 
-// Where the next case starts, and whether this one agrees; nothing if the file ends in it.
-fn case_at(s: &[u8], at: usize) -> Option<(usize, bool)>
-    requires { at < length s.now }
-    ensures { IfSome result (λ r. (at < r.0) × (r.0 ≤ length s.now)) }
-{
-    let text = piece_at(s, at)?;
-    let answer = piece_at(s, text.to)?;
-    Some((answer.to, agrees(part(s, text), part(s, answer))))
+// Stored texts and their tokens.
+struct Tokens;
+
+impl Case for Tokens {
+    ghost answers = { λ _ s at r. IfSome r (λ e. (at < e.0) × (e.0 ≤ length s)) };
+
+    fn at(&self, s: &[u8], at: usize) -> Option<(usize, bool)> {
+        let text = piece_at(s, at)?;
+        let answer = piece_at(s, text.to)?;
+        Some((answer.to, agrees(part(s, text), part(s, answer))))
+    }
 }
 
 // What a step answered: its kind, the cursor behind it, its line and character, its payload.
