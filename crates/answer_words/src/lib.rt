@@ -45,9 +45,11 @@ impl<const N: usize> Answer<N> {
     }
 }
 
-// Stores words at the front, as far as there is room.
+// Stores words at the front, as far as there is room. One by one, since a copy of the run would make the library for C call `memcpy`.
 pub fn store_words(out: &mut [u64], words: &[u64])
     ensures { out.new ≡ stored out.old 0 words.now }
 {
-    base::store_all(out, 0, words);
+    for (i, &w) in words.iter().enumerate() {
+        base::store(out, i, w);
+    }
 }

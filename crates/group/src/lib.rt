@@ -71,6 +71,7 @@ fn sized(s: &[u8], n: u64, from: usize) -> Option<Range>
 }
 
 // The pair at a place: two parts, one behind the other.
+#[inline(always)]
 #[tactic(auto, unfolding(crate::specs::Pair::pair_at, base::specs::Option::on_option))]
 pub fn pair_at(s: &[u8], at: usize) -> Option<(Range, Range)>
     ensures { result ≡ pair_at s.now at }
@@ -120,6 +121,8 @@ impl Iterator for Pairs<'_> {
 
     ghost remaining = { item_count pairs_left };
 
+    // Inlined, since the lookup of a tag is little else.
+    #[inline(always)]
     fn next(&mut self) -> Option<(Range, Range)> {
         if self.count == 0 {
             return None;

@@ -29,8 +29,13 @@ pub struct OutOfRange;
 pub fn matches(tables: &Tables, zoom: u8, entity: Entity, i: usize) -> Result<bool, OutOfRange>
     ensures { result ≡ fit_of (verdict zoom (value_of entity.entry.bytes.now entity.entry.range) (selector_in tables.now.bundle.now tables.now.selectors.now tables.now.tests.now tables.now.numbers.now i)) }
 {
-    let kind = ObjectKind::of(word_of(tables.selectors, i, 0));
-    if fits_zoom(tables.selectors, i, zoom) && fits_type(kind, entity.range.kind) {
+    // The type is read where the zoom fits: most selectors are of another zoom.
+    if fits_zoom(tables.selectors, i, zoom)
+        && fits_type(
+            ObjectKind::of(word_of(tables.selectors, i, 0)),
+            entity.range.kind,
+        )
+    {
         return tests_fit(tables, entity, range_of(tables.selectors, i, 3));
     }
     Ok(false)
@@ -42,8 +47,11 @@ fn fits_zoom(selectors: &[u32], i: usize, zoom: u8) -> bool
 {
     let zoom = usize::from(zoom);
     let lowest = word_of(selectors, i, 1);
+    if zoom + 1 < lowest {
+        return false;
+    }
     let highest = word_of(selectors, i, 2);
-    lowest <= zoom + 1 && (highest == 0 || zoom < highest)
+    highest == 0 || zoom < highest
 }
 
 // Whether a selector of a kind of objects takes an entity's kind.

@@ -6,7 +6,7 @@ use mathlib.Core.Bool.{false}
 use mathlib.Core.List.{List, [], ◌∷◌, ◌++◌, map}
 use mathlib.Core.Option.{none, some}
 use lib.Dec.{eqb, eqb_refl}
-use lib.ListN.{get_or, drop}
+use lib.ListN.{get_or, drop, length}
 use borrow.Author.Tests.{eq-eqb, ne_eqb}
 use Rattle.base.specs.Bytes.{Bytes, same, within}
 use Rattle.base.specs.Choice.{pick, by-test, holds}
@@ -38,7 +38,14 @@ unfolding same
 same_front [] b y = refl
 same_front (x ∷ a) b y = rw (holds (eqb x x) (eqb_refl x)) (same_front a b y)
 
+colon_at : (a b : Bytes) → get_or (a ++ (58 ∷ b)) (length a) 0 ≡ 58
+colon_at [] b = refl
+colon_at (x ∷ a) b = colon_at a b
+
 module _ (a b y : Bytes) where
+  pub joined_unmarked : (get_or y (length a) 0 ≡ 58 → ⊥) → false ≡ same (a ++ (58 ∷ b)) y
+  joined_unmarked h = sym (same_false (a ++ (58 ∷ b)) y (λ e. h (ap (λ (x : Bytes). get_or x (length a) 0) (sym e) ∙ colon_at a b)))
+
   pub joined_none : ((x : Bytes) → y ≡ a ++ x → ⊥) → false ≡ same (a ++ (58 ∷ b)) y
   joined_none h = sym (same_false (a ++ (58 ∷ b)) y (λ e. h (58 ∷ b) (sym e)))
 

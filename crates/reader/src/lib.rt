@@ -6,7 +6,7 @@ ghost use Rattle.base.specs.Bytes.{same};
 ghost use Rattle.entity.specs.Layout.{tag_ranges};
 ghost use Rattle.reader.specs.Tags.{value_in};
 
-use base::{Range, part, same_bytes};
+use base::{Range, byte_at, part, same_bytes};
 use entity::Entity;
 
 // The value of the first tag that has a key.
@@ -31,6 +31,10 @@ pub fn get_by_joined_key(entity: Entity, first: &[u8], second: &[u8]) -> Option<
 fn is_joined(first: &[u8], second: &[u8], key: &[u8]) -> bool
     ensures { result ≡ same (first.now ++ (58 ∷ second.now)) key.now }
 {
+    // The colon first, which is one byte: the first part may be long.
+    if byte_at(key, first.len()) != b':' {
+        return false;
+    }
     match key.strip_prefix(first) {
         Some([b':', rest @ ..]) => same_bytes(second, rest),
         _ => false,

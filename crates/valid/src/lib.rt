@@ -48,13 +48,19 @@ pub fn is_sound(
     let tests = &tests.as_chunks::<8>().0[..n.tests];
     let properties = &properties.as_chunks::<8>().0[..n.properties];
     let numbers = &numbers[..n.numbers];
+    // Each from its last entry down, which is where tables that a load did not fill to their counts are broken.
     rules
         .iter()
+        .rev()
         .all(|e| rule_sound(e, n.selectors, n.properties))
-        && selectors.iter().all(|e| selector_sound(e, n.tests, bundle))
-        && tests.iter().all(|e| test_sound(e, numbers, bundle))
+        && selectors
+            .iter()
+            .rev()
+            .all(|e| selector_sound(e, n.tests, bundle))
+        && tests.iter().rev().all(|e| test_sound(e, numbers, bundle))
         && properties
             .iter()
+            .rev()
             .all(|e| property_sound(e, n.numbers, bundle))
 }
 

@@ -25,7 +25,7 @@ returns-then-fits_type c = right_type
     _
     c.fits_zoom.ensures
     c.if-fits_zoom.true _
-    (c.fits_type.ensures ∙ ap (λ o. fits_type o c.args.entity.range.kind) (ap type_of (c.of-kind.ensures ∙ ap object_kind c.word_of.ensures) ∙ sym (type_is _)))
+    (c.fits_type.ensures ∙ ap (λ o. fits_type o c.args.entity.range.kind) (ap type_of (c.of.ensures ∙ ap object_kind c.word_of.ensures) ∙ sym (type_is _)))
     c.if-fits_type.true _
     (c.tests_fit.ensures
     ∙ ap
@@ -54,7 +54,7 @@ returns c = elim c.else-fits_zoom.branch [
       c.args.tables.now.numbers.now
       c.args.i) _
       c.fits_zoom.ensures w.if-fits_zoom.true _
-      (w.fits_type.ensures ∙ ap (λ o. fits_type o c.args.entity.range.kind) (ap type_of (c.of-kind.ensures ∙ ap object_kind c.word_of.ensures) ∙ sym (type_is _))) w.if-fits_type.false
+      (w.fits_type.ensures ∙ ap (λ o. fits_type o c.args.entity.range.kind) (ap type_of (w.of.ensures ∙ ap object_kind w.word_of.ensures) ∙ sym (type_is _))) w.if-fits_type.false
   | else-fits_zoom-via-else-fits_zoom w ↦ beyond
       c.args.zoom
       (value_of c.args.entity.bytes.now c.args.entity.range)

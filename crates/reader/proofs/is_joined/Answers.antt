@@ -5,8 +5,11 @@ use Rattle.std.proofs.lemmas.Grind.{common_steps}
 use Rattle.std.proofs.lemmas.List.{take_rest}
 use Rattle.std.proofs.lemmas.Slice.Eq.{strip_prefix_is}
 use Rattle.base.specs.Bytes.{same}
-use Rattle.reader.proofs.Lookup.{joined_none, joined_else, joined_rest}
+use Rattle.reader.proofs.Lookup.{joined_unmarked, joined_none, joined_else, joined_rest}
 use Rattle.reader.proofs.is_joined.Goals as goal
+
+pub returns-then-byte_at-ne58 : goal.returns-then-byte_at-ne58
+returns-then-byte_at-ne58 c = joined_unmarked _ _ _ (λ e. c.if-byte_at-ne58.true (c.byte_at.ensures ∙ e))
 
 pub returns-in-Some-eq58 : goal.returns-in-Some-eq58
 returns-in-Some-eq58 c =
