@@ -8,7 +8,7 @@ use base::{Range, byte_at, part};
 use capi::{mapcss_load, mapcss_style_areas, mapcss_style_entities};
 use std::io;
 use stdio::cases::{
-    Case, count_at, ends_at, float_at, is_told, piece_at, replay, short_at, words_are,
+    Case, count_at, ends_at, float_at, is_told, piece_at, replay_cases, short_at, words_are,
 };
 use stdio::zeros;
 use table::Tables;
@@ -18,7 +18,7 @@ const UNSET: u64 = u64::MAX;
 
 fn main(rt: HostRuntime) -> io::Result<()> {
     let mut room = zeros::<524288>();
-    replay(&mut room, &mut rt.stdin(), &mut rt.stdout(), &Lists)
+    replay_cases(&mut room, &mut rt.stdin(), &mut rt.stdout(), &Lists)
 }
 
 // Stored drawing lists.

@@ -8,12 +8,12 @@ use base::refusal::Refusal;
 use base::{Range, byte_at, part};
 use entity::{EntityRange, Sort, StreamPlace};
 use std::io;
-use stdio::cases::{Case, piece_at, replay, word_at};
+use stdio::cases::{Case, piece_at, replay_cases, word_at};
 use stdio::zeros;
 
 fn main(rt: HostRuntime) -> io::Result<()> {
     let mut room = zeros::<65536>();
-    replay(&mut room, &mut rt.stdin(), &mut rt.stdout(), &Layouts)
+    replay_cases(&mut room, &mut rt.stdin(), &mut rt.stdout(), &Layouts)
 }
 
 // Stored layouts.

@@ -8,14 +8,14 @@ use base::{Range, part};
 use capi::mapcss_load;
 use std::io;
 use stdio::cases::{
-    Case, bits_of, count_at, ends_at, is_byte, is_refusal, is_short, long_at, piece_at, replay,
-    short_at, words_are,
+    Case, bits_of, count_at, ends_at, is_byte, is_refusal, is_short, long_at, piece_at,
+    replay_cases, short_at, words_are,
 };
 use stdio::zeros;
 
 fn main(rt: HostRuntime) -> io::Result<()> {
     let mut room = zeros::<524288>();
-    replay(&mut room, &mut rt.stdin(), &mut rt.stdout(), &Loads)
+    replay_cases(&mut room, &mut rt.stdin(), &mut rt.stdout(), &Loads)
 }
 
 // Stored loads.

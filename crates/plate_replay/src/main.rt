@@ -7,13 +7,13 @@ ghost use Rattle.std.specs.Prelude.{◌≤◌, ◌<◌, length, IfSome};
 use base::{Range, part};
 use printing::Buffers;
 use std::io;
-use stdio::cases::{Case, piece_at, replay};
+use stdio::cases::{Case, piece_at, replay_cases};
 use stdio::zeros;
 use table::Tables;
 
 fn main(rt: HostRuntime) -> io::Result<()> {
     let mut room = zeros::<524288>();
-    replay(&mut room, &mut rt.stdin(), &mut rt.stdout(), &Plates)
+    replay_cases(&mut room, &mut rt.stdin(), &mut rt.stdout(), &Plates)
 }
 
 // Stored inputs and outputs of plate.

@@ -1,12 +1,12 @@
 // What the programs share that replay a case file: its numbers, lowest byte first, and what they print of a case.
 
-ghost use Rattle.std.specs.Prelude.{◌≡◌, ◌≤◌, ◌<◌, ℕ, Bool, List, Option, IfSome, length, get_or, eqb, cond, ltb, ◌&&◌, ◌+◌, ◌*◌, IfOk, OnOk, ◌++◌};
+ghost use Rattle.std.specs.Prelude.{◌≡◌, ◌≤◌, ◌<◌, ℕ, Bool, List, Option, Some, IfSome, length, get_or, eqb, cond, ltb, ◌&&◌, ◌+◌, ◌*◌, IfOk, OnOk, ◌++◌};
 ghost use Rattle.std.specs.Float.{binary64};
 ghost use Rattle.std.specs.Io.KnownBytes.{Appends, Consumes};
 ghost use Rattle.std.specs.Float.Ieee.{of_bits, to_bits};
 ghost use Rattle.stdio.specs.Cases.{short, word, long, named, Ran, Replayed, piece, entry, are_words, refusal, counted};
 
-use crate::{line, read_full};
+use crate::{line, read_full, zeros};
 use base::{Range, at_or};
 use std::io;
 use std::io::{Read, Write};
@@ -21,8 +21,8 @@ pub trait Case {
         ensures forward { IfSome result (λ r. (i < r.0) × (r.0 ≤ length s.now)) };
 }
 
-// Replays the cases of an input, as many bytes of it as there is room, as `run_all` does.
-pub fn replay<R: Read, W: Write, C: Case>(
+// Replays the cases of an input, as many bytes of it as there is room, as `run_cases` does.
+pub fn replay_cases<R: Read, W: Write, C: Case>(
     room: &mut [u8],
     from: &mut R,
     out: &mut W,
@@ -32,7 +32,7 @@ pub fn replay<R: Read, W: Write, C: Case>(
 {
     let n = read_full(from, room)?;
     let cases = &room[..n];
-    let t = run_all(out, cases, case)?;
+    let t = run_cases(out, cases, case)?;
     totals(out, t)
 }
 
@@ -44,7 +44,7 @@ pub struct Tally {
 }
 
 // Runs the cases of a file one after another, and prints the number of each that differs. One that the file ends in is the last.
-pub fn run_all<W: Write, C: Case>(out: &mut W, s: &[u8], case: &C) -> io::Result<Tally>
+pub fn run_cases<W: Write, C: Case>(out: &mut W, s: &[u8], case: &C) -> io::Result<Tally>
     ensures { IfOk result (λ t. Ran (C.answers case.now s.now) (length s.now) (length s.now) t.run t.bad) }
 {
     let mut at = 0;
@@ -62,6 +62,63 @@ pub fn run_all<W: Write, C: Case>(out: &mut W, s: &[u8], case: &C) -> io::Result
                 line(out, b"mismatch in case", run)?;
                 bad += 1;
                 end
+            }
+        };
+        run += 1;
+    }
+    Ok(Tally { run, bad })
+}
+
+// Replays the cases of up to 524,288 bytes of an input: one closure reads and answers the case at a place, as `run_all` asks for it.
+pub fn replay<R: Read, W: Write, F: Fn(&[u8], usize) -> Option<(usize, bool)>>(
+    from: &mut R,
+    out: &mut W,
+    case_at: F,
+) -> io::Result<()>
+    requires callable { (s : _) (at : ℕ) → at < length s.now → F.pre case_at s at }
+    requires forward { (s : _) (at end : ℕ) (agrees : Bool) → at < length s.now → F.post case_at s at (Some (end, agrees)) → (at < end) × (end ≤ length s.now) }
+    ensures { OnOk result (Replayed (λ s. s.now) (λ s at r. F.post case_at s at r) (λ b. Consumes (R.remaining from.old) (R.remaining from.new) b) (λ b. (before : _) × Appends before (W.contents out.new) b)) }
+{
+    let mut room = zeros::<524288>();
+    let n = read_full(from, &mut room)?;
+    let s = &room[..n];
+    let tally = run_all(
+        out,
+        s.len(),
+        |at|
+            requires { F.pre case_at s at }
+            ensures { F.post case_at s.entry at result }
+        { case_at(s, at) },
+    )?;
+    totals(out, tally)
+}
+
+// Runs the cases of so many bytes one after another, and prints the number of each that differs. A case answers where the next one
+// starts, and whether it agrees; one that the file ends in answers nothing.
+pub fn run_all<W: Write, F: Fn(usize) -> Option<(usize, bool)>>(
+    out: &mut W,
+    size: usize,
+    case_at: F,
+) -> io::Result<Tally>
+    requires callable { (at : ℕ) → at < size → F.pre case_at at }
+    requires forward { (at end : ℕ) (agrees : Bool) → at < size → F.post case_at at (Some (end, agrees)) → (at < end) × (end ≤ size) }
+    ensures { IfOk result (λ t. Ran (λ at r. F.post case_at at r) size size t.run t.bad) }
+{
+    let mut at = 0;
+    let mut run: u64 = 0;
+    let mut bad: u64 = 0;
+    while at < size {
+        at = match case_at(at) {
+            None => {
+                line(out, b"broken case", run)?;
+                bad += 1;
+                size
+            }
+            Some((next, true)) => next,
+            Some((next, false)) => {
+                line(out, b"mismatch in case", run)?;
+                bad += 1;
+                next
             }
         };
         run += 1;
@@ -230,4 +287,53 @@ pub fn is_told(answer: &[u8], number: u64, numbers: &[u64], count: u64) -> bool
         && at_or(numbers, 2, 0) == 0
         && at_or(numbers, 3, 0) == 0
         && at_or(numbers, 4, 0) == 0
+}
+
+#[cfg(test)]
+mod tests {
+    use super::{piece_at, replay, run_all};
+    use std::test::Fail;
+
+    // A case is a piece that should be of one byte.
+    fn case_at(s: &[u8], at: usize) -> Option<(usize, bool)>
+        requires { at < length s.now }
+        ensures { IfSome result (λ r. (at < r.0) × (r.0 ≤ length s.now)) }
+    {
+        let piece = piece_at(s, at)?;
+        Some((piece.to, piece.to - piece.from == 1))
+    }
+
+    // A case that agrees, one that differs, and one that the file ends in.
+    #[test]
+    fn replays(rt: HostRuntime) -> Result<(), Fail> {
+        let mut out = Vec::new(rt.alloc());
+        let mut from = b"\x01\x00a\x02\x00bc\x03\x00d".as_slice();
+        replay(&mut from, &mut out, case_at)?;
+        assert_eq!(rt;
+            out.as_slice(),
+            b"mismatch in case 1\nbroken case 2\ncases 3\nmismatches 2\n".as_slice()
+        );
+        assert_eq!(rt; from, b"".as_slice());
+        Ok(())
+    }
+
+    // Seven bytes in cases of two, of which the second differs: the last is broken.
+    #[test]
+    fn runs_all(rt: HostRuntime) -> Result<(), Fail> {
+        let mut out = Vec::new(rt.alloc());
+        let t = run_all(
+            &mut out,
+            7,
+            |at|
+                requires { at < 7 }
+                ensures { IfSome result (λ r. (at < r.0) × (r.0 ≤ 7)) }
+            { (at < 6).then_some((at + 2, at != 2)) },
+        )?;
+        assert_eq!(rt; (t.run, t.bad), (4, 2));
+        assert_eq!(rt;
+            out.as_slice(),
+            b"mismatch in case 1\nbroken case 3\n".as_slice()
+        );
+        Ok(())
+    }
 }

@@ -7,7 +7,9 @@ ghost use Rattle.std.specs.Prelude.{◌≤◌, ◌<◌, length, IfSome};
 use base::{Range, byte_at, part};
 use capi::{mapcss_load, mapcss_styles};
 use std::io;
-use stdio::cases::{Case, bits_of, ends_at, float_at, is_told, long_at, piece_at, replay, word_at};
+use stdio::cases::{
+    Case, bits_of, ends_at, float_at, is_told, long_at, piece_at, replay_cases, word_at,
+};
 use stdio::zeros;
 use table::Tables;
 
@@ -16,7 +18,7 @@ const UNSET: u64 = u64::MAX;
 
 fn main(rt: HostRuntime) -> io::Result<()> {
     let mut room = zeros::<524288>();
-    replay(&mut room, &mut rt.stdin(), &mut rt.stdout(), &Styles)
+    replay_cases(&mut room, &mut rt.stdin(), &mut rt.stdout(), &Styles)
 }
 
 // Stored styles.

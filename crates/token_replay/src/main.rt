@@ -7,12 +7,12 @@ ghost use Rattle.std.specs.Prelude.{◌≤◌, ◌<◌, length, IfSome};
 use base::part;
 use capi_token::mapcss_next_token;
 use std::io;
-use stdio::cases::{Case, bits_of, is_byte, is_long, is_short, piece_at, replay};
+use stdio::cases::{Case, bits_of, is_byte, is_long, is_short, piece_at, replay_cases};
 use stdio::zeros;
 
 fn main(rt: HostRuntime) -> io::Result<()> {
     let mut room = zeros::<524288>();
-    replay(&mut room, &mut rt.stdin(), &mut rt.stdout(), &Tokens)
+    replay_cases(&mut room, &mut rt.stdin(), &mut rt.stdout(), &Tokens)
 }
 
 // Stored texts and their tokens.

@@ -77,32 +77,48 @@ module _ (t : List ℕ) (n : ℕ) (room : n * 8 ≤ length t) (xs : List (List �
   judged :
       (test : List ℕ → Bool) (p : ℕ → Bool)
       → ((i : ℕ) → i < n → test (get_or (first_chunks 8 (length t / 8) t) i []) ≡ p i)
-      → r ≡ list_all test (reverse (take n xs))
+      → r ≡ list_all test (take n xs)
       → r ≡ all_below p n
   judged test p h e =
       e
-      ∙ all_reverse test (take n xs)
       ∙ all_is [] test (take n xs) p
       (λ i g.
       let below : i < n = omega (arith, there) in
       ap test (get_or-take n xs i [] below ∙ ap (λ (x : List (List ℕ)). get_or x i []) front) ∙ h i below)
       ∙ ap (all_below p) there
 
-  pub rules_are : (s p : ℕ) → r ≡ list_all (λ e. rule_sound e s p 0) (reverse (take n xs)) → r ≡ all_below (rule_sound t s p) n
+  pub rules_are : (s p : ℕ) → r ≡ list_all (λ e. rule_sound e s p 0) (take n xs) → r ≡ all_below (rule_sound t s p) n
   rules_are s p = judged (λ e. rule_sound e s p 0) (rule_sound t s p) (λ i g. rule_entry t n i room g s p)
 
-  pub selectors_are : (s b : ℕ) → r ≡ list_all (λ e. selector_sound e s b 0) (reverse (take n xs)) → r ≡ all_below (selector_sound t s b) n
+  pub selectors_are : (s b : ℕ) → r ≡ list_all (λ e. selector_sound e s b 0) (take n xs) → r ≡ all_below (selector_sound t s b) n
   selectors_are s b = judged (λ e. selector_sound e s b 0) (selector_sound t s b) (λ i g. selector_entry t n i room g s b)
 
   pub tests_are :
       (ys : List Float) (m b : ℕ)
       → m ≤ length ys
-      → r ≡ list_all (λ e. test_sound e (take m ys) (length (take m ys)) b 0) (reverse (take n xs))
+      → r ≡ list_all (λ e. test_sound e (take m ys) (length (take m ys)) b 0) (take n xs)
       → r ≡ all_below (test_sound t ys m b) n
   tests_are ys m b h =
       judged
       (λ e. test_sound e (take m ys) (length (take m ys)) b 0) (test_sound t ys m b)
       (λ i g. first_numbers ys m h (get_or (first_chunks 8 (length t / 8) t) i []) b 0 ∙ test_entry t n i room g ys m b)
 
-  pub properties_are : (m b : ℕ) → r ≡ list_all (λ e. property_sound e m b 0) (reverse (take n xs)) → r ≡ all_below (property_sound t m b) n
+  pub properties_are : (m b : ℕ) → r ≡ list_all (λ e. property_sound e m b 0) (take n xs) → r ≡ all_below (property_sound t m b) n
   properties_are m b = judged (λ e. property_sound e m b 0) (property_sound t m b) (λ i g. property_entry t n i room g m b)
+
+  -- judged from the last entry down
+  pub rules_reversed : (s p : ℕ) → r ≡ list_all (λ e. rule_sound e s p 0) (reverse (take n xs)) → r ≡ all_below (rule_sound t s p) n
+  rules_reversed s p e = rules_are s p (e ∙ all_reverse (λ e. rule_sound e s p 0) (take n xs))
+
+  pub selectors_reversed : (s b : ℕ) → r ≡ list_all (λ e. selector_sound e s b 0) (reverse (take n xs)) → r ≡ all_below (selector_sound t s b) n
+  selectors_reversed s b e = selectors_are s b (e ∙ all_reverse (λ e. selector_sound e s b 0) (take n xs))
+
+  pub tests_reversed :
+      (ys : List Float) (m b : ℕ)
+      → m ≤ length ys
+      → r ≡ list_all (λ e. test_sound e (take m ys) (length (take m ys)) b 0) (reverse (take n xs))
+      → r ≡ all_below (test_sound t ys m b) n
+  tests_reversed ys m b h e = tests_are ys m b h (e ∙ all_reverse (λ e. test_sound e (take m ys) (length (take m ys)) b 0) (take n xs))
+
+  pub properties_reversed : (m b : ℕ) → r ≡ list_all (λ e. property_sound e m b 0) (reverse (take n xs)) → r ≡ all_below (property_sound t m b) n
+  properties_reversed m b e = properties_are m b (e ∙ all_reverse (λ e. property_sound e m b 0) (take n xs))

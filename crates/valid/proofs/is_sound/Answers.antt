@@ -8,7 +8,7 @@ use Rattle.std.proofs.lemmas.Iterator.Search.{all_from_yields_List}
 use Rattle.valid.proofs.Room.{counts_room}
 use Rattle.base.specs.Choice.{pick, via, if_true, if_false}
 use Rattle.valid.specs.Valid.{all_below, rule_sound, selector_sound, test_sound, tables_sound, entries_sound}
-use Rattle.valid.proofs.Entries.{rules_are, selectors_are, tests_are, properties_are}
+use Rattle.valid.proofs.Entries.{rules_reversed, selectors_reversed, tests_reversed, properties_reversed}
 use Rattle.valid.proofs.is_sound.Goals.{Joined-all-2, then-all, else-all, then-all-2, else-all-2}
 use Rattle.valid.proofs.is_sound.Goals as goal
 
@@ -27,20 +27,20 @@ module _ (c : Joined-all-2) where
   three_tables =
       let room = counts_room _ _ _ _ _ _ (via c.counts_held.ensures c.if-not-counts_held.false) in
       let one : c.all.result ≡ rules_good =
-      rules_are _ _ room.0 _ c.as_chunks.ensures.front c.as_chunks.ensures.front_len _ _ _ (all_from_yields_List _ _ _ _ c.all.ensures.ran (YieldsList-from_rev_slice _ (ap iter_rest c.rev.ensures.source ∙ c.iter.ensures.rest)) (λ x b q k. search (rules, tests))) in
+      rules_reversed _ _ room.0 _ c.as_chunks.ensures.front c.as_chunks.ensures.front_len _ _ _ (all_from_yields_List _ _ _ _ c.all.ensures.ran (YieldsList-from_rev_slice _ (ap iter_rest c.rev.ensures.source ∙ c.iter.ensures.rest)) (λ x b q k. search (rules, tests))) in
       let two : c.if-all.value ≡ pick rules_good selectors_good false =
       elim c.if-all.branch [
         | then-all v ↦
             if_true _ _ _ (via one v.if-all.true)
             (v.value-is
-            ∙ selectors_are _ _ room.1 _ c.as_chunks-2.ensures.front c.as_chunks-2.ensures.front_len _ _ _ (all_from_yields_List _ _ _ _ v.all-then-all.ensures.ran (YieldsList-from_rev_slice _ (ap iter_rest v.rev-then-all.ensures.source ∙ v.iter-then-all.ensures.rest)) (λ x b q k. search (rules, tests))))
+            ∙ selectors_reversed _ _ room.1 _ c.as_chunks-2.ensures.front c.as_chunks-2.ensures.front_len _ _ _ (all_from_yields_List _ _ _ _ v.all-then-all.ensures.ran (YieldsList-from_rev_slice _ (ap iter_rest v.rev-then-all.ensures.source ∙ v.iter-then-all.ensures.rest)) (λ x b q k. search (rules, tests))))
         | else-all v ↦ if_false _ _ _ (via one v.if-all.false) (v.value-is ∙ v.if-all.false)
       ] in
       elim c.if-all-2.branch [
         | then-all-2 w ↦
             if_true _ _ _ (via two w.if-all-2.true)
             (w.value-is
-            ∙ tests_are _ _ room.2 _ c.as_chunks-3.ensures.front c.as_chunks-3.ensures.front_len _ _ _ _ room.4 (all_from_yields_List _ _ _ _ w.all-then-all-2.ensures.ran (YieldsList-from_rev_slice _ (ap iter_rest w.rev-then-all-2.ensures.source ∙ w.iter-then-all-2.ensures.rest)) (λ x b q k. search (rules, tests))))
+            ∙ tests_reversed _ _ room.2 _ c.as_chunks-3.ensures.front c.as_chunks-3.ensures.front_len _ _ _ _ room.4 (all_from_yields_List _ _ _ _ w.all-then-all-2.ensures.ran (YieldsList-from_rev_slice _ (ap iter_rest w.rev-then-all-2.ensures.source ∙ w.iter-then-all-2.ensures.rest)) (λ x b q k. search (rules, tests))))
         | else-all-2 w ↦ if_false _ _ _ (via two w.if-all-2.false) (w.value-is ∙ w.if-all-2.false)
       ]
 
@@ -58,7 +58,7 @@ returns-then-all-3 c =
     if_true _ _ _ held (
     and_last _ _ _ _ (three_tables (goal.at.returns-then-all-3 c).Joined-all-2)
     (if_true _ _ _ c.if-all-3.true
-    (properties_are _ _ (counts_room _ _ _ _ _ _ held).3 _ c.as_chunks-4.ensures.front c.as_chunks-4.ensures.front_len _ _ _ (all_from_yields_List _ _ _ _ c.all-then-all-3.ensures.ran (YieldsList-from_rev_slice _ (ap iter_rest c.rev-then-all-3.ensures.source ∙ c.iter-then-all-3.ensures.rest)) (λ x b q k. search (rules, tests))))))
+    (properties_reversed _ _ (counts_room _ _ _ _ _ _ held).3 _ c.as_chunks-4.ensures.front c.as_chunks-4.ensures.front_len _ _ _ (all_from_yields_List _ _ _ _ c.all-then-all-3.ensures.ran (YieldsList-from_rev_slice _ (ap iter_rest c.rev-then-all-3.ensures.source ∙ c.iter-then-all-3.ensures.rest)) (λ x b q k. search (rules, tests))))))
 
 pub returns-else-all-3 : goal.returns-else-all-3
 unfolding tables_sound entries_sound

@@ -4,4 +4,4 @@ use Rattle.stdio.specs.Cases.{Replayed}
 use Rattle.stdio.proofs.cases.replay.Goals as goal
 
 pub returns : goal.returns
-returns g c = on_ok_weaker {Q = Replayed _ _ _ _} _ (λ told. record { cases = _; run = _; bad = _; read = c.in_ok-n.ensures.bytes; ran = c.in_ok-t.ensures; printed = (_, told) }) c.totals.ensures
+returns g c = on_ok_weaker {Q = Replayed _ _ _ _} _ (λ told. record { cases = _; run = _; bad = _; read = c.in_ok-n.ensures.bytes; ran = c.in_ok-tally.ensures; printed = (_, told) }) c.totals.ensures

@@ -1,0 +1,26 @@
+-- Each turn adds one case, by what it answered.
+use Rattle.std.proofs.Common.{arith, ◌≡◌, refl, length}
+use Rattle.stdio.specs.Cases.{none, broken}
+use Rattle.stdio.proofs.Ran.{moved, same_on, other_on}
+use Rattle.stdio.proofs.cases.run_cases.Goals.{in-None+in_ok-line-in-None, in-Some-default-true, in-Some-default-false+in_ok-line-in-Some-default-false}
+use Rattle.stdio.proofs.cases.run_cases.Goals as goal
+
+pub loop-at-init : goal.loop-at-init
+loop-at-init g c = (omega arith, omega arith, omega arith, none)
+
+pub loop-at-preserved : goal.loop-at-preserved
+loop-at-preserved g c =
+    let before = c.loop-at.invariant.3 in
+    elim c.match-at.branch [
+      | in-None+in_ok-line-in-None w ↦
+          (omega arith, omega arith, omega arith, moved w.at-is w.bad-is (broken before w.in-None.ensures.answers))
+      | in-Some-default-true w ↦
+          let on = w.in-Some-default-true.ensures.forward in
+          (omega arith, omega arith, omega arith, moved w.at-is w.bad-is (same_on w.in-Some-default-true.field-0-1-test before w.in-Some-default-true.ensures.answers))
+      | in-Some-default-false+in_ok-line-in-Some-default-false w ↦
+          let on = w.in-Some-default-false.ensures.forward in
+          (omega arith, omega arith, omega arith, moved w.at-is w.bad-is (other_on w.in-Some-default-false.field-0-1-test before w.in-Some-default-false.ensures.answers))
+    ]
+
+pub returns : goal.returns
+returns g c = let e : length c.args.s.now ≡ c.loop-at.at = omega arith in moved e refl c.loop-at.invariant.3
