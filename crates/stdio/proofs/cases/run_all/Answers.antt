@@ -13,14 +13,14 @@ loop-at-preserved g c =
     let before = c.loop-at.invariant.3 in
     elim c.match-case_at.branch [
       | in-None+in_ok-line-in-None w ↦
-          (omega arith, omega arith, omega arith, moved w.at-is w.bad-is (broken before w.in-None.ensures))
+          (omega arith, omega arith, omega arith, moved (broken before w.in-None.ensures) (omega arith) (omega arith))
       | in-Some-default-true w ↦
           let on = c.requires.forward _ _ _ (omega arith) w.in-Some-default-true.ensures in
-          (omega arith, omega arith, omega arith, moved w.at-is w.bad-is (same_on w.in-Some-default-true.field-0-1-test before w.in-Some-default-true.ensures))
+          (omega arith, omega arith, omega arith, moved (same_on w.in-Some-default-true.field-0-1-test before w.in-Some-default-true.ensures) (omega arith) (omega arith))
       | in-Some-default-false+in_ok-line-in-Some-default-false w ↦
           let on = c.requires.forward _ _ _ (omega arith) w.in-Some-default-false.ensures in
-          (omega arith, omega arith, omega arith, moved w.at-is w.bad-is (other_on w.in-Some-default-false.field-0-1-test before w.in-Some-default-false.ensures))
+          (omega arith, omega arith, omega arith, moved (other_on w.in-Some-default-false.field-0-1-test before w.in-Some-default-false.ensures) (omega arith) (omega arith))
     ]
 
 pub returns : goal.returns
-returns g c = let e : c.args.size ≡ c.loop-at.at = omega arith in moved e refl c.loop-at.invariant.3
+returns g c = let e : c.args.size ≡ c.loop-at.at = omega arith in moved c.loop-at.invariant.3 e refl
